@@ -99,6 +99,10 @@ pub value-of-card : (x : ℕ) → isCard x ≡ true → isValue (cardOf x .value
 unfolding cardOf
 value-of-card x e = let c = card-is x e in is-value (x / 16) (c .low) (c .high)
 
+-- the code of the card of a suit after v others
+pub code-in-suit : (suit v : ℕ) → suit < 4 → v < 13 → isCard ((v + 1) * 16 + suit) ≡ true
+code-in-suit suit v h b = is-card ((v + 1) * 16 + suit) (omega arith) (omega arith) (omega arith)
+
 -- ---- exactly 52 codes are cards: the pack's places and the codes are one to one
 
 pub card-at : (k : ℕ) → k < 52 → isCard (cardAt k) ≡ true

@@ -6,9 +6,10 @@ use Prim.Native.Nat.{ℕ, zero, suc, _+_, _<_, _≤_}
 use native.Mathlib.Nat.{le-of-suc-le-suc, not-suc-le-zero, zero-lt-suc}
 use native.Mathlib.Numerals.{add-one}
 use native.Mathlib.Omega.{arith}
+use native.Mathlib.Decide.{ℕ-discrete}
 use borrow.Author.Count.{below-more}
 use lib.ListN.{length, getD, take, length-append, List·getD-append}
-use lib.Seq.{getD-at}
+use lib.Seq.{getD-at, take-suc, take-length}
 use lib.Dec.{eqb}
 use Rattle.card.specs.Words.{every, all, occurs, listed, concat, sum}
 
@@ -132,8 +133,54 @@ pub concat-one : (l : List ℕ) → concat (l ∷ []) ≡ l
 unfolding concat
 concat-one l = append-nil l
 
+pub concat-none : (f : ℕ → List ℕ) → concat (listed 0 f) ≡ []
+unfolding concat listed
+concat-none f = refl
+
 pub concat-more : (f : ℕ → List ℕ) (i : ℕ) → concat (listed (i + 1) f) ≡ concat (listed i f) ++ f i
 concat-more f i = ap concat (listed-more f i) ∙ concat-append (listed i f) (f i ∷ []) ∙ ap (λ (m : List ℕ). concat (listed i f) ++ m) (concat-one (f i))
+
+-- the lists before i, list i, and what comes after it
+pub concat-split : (f : ℕ → List ℕ) (n i : ℕ) → i < n → (rest : List ℕ) × (concat (listed n f) ≡ (concat (listed i f) ++ f i) ++ rest)
+concat-split f zero i h = absurd (not-suc-le-zero h)
+concat-split f (suc n) i h = here-or-before (concat-split f n i) (ℕ-discrete i n)
+  where
+    last : concat (listed (suc n) f) ≡ concat (listed n f) ++ f n
+    last = ap (λ (m : ℕ). concat (listed m f)) (sym (add-one n)) ∙ concat-more f n
+
+    here-or-before :
+        (i < n → (rest : List ℕ) × (concat (listed n f) ≡ (concat (listed i f) ++ f i) ++ rest)) →
+        Dec (i ≡ n) → (rest : List ℕ) × (concat (listed (suc n) f) ≡ (concat (listed i f) ++ f i) ++ rest)
+    here-or-before before (yes e) =
+        ([], last ∙ ap (λ (m : ℕ). concat (listed m f) ++ f m) (sym e) ∙ sym (append-nil (concat (listed i f) ++ f i)))
+    here-or-before before (no d) =
+        let r = before (omega arith) in
+        (r .0 ++ f n, last ∙ ap (λ (l : List ℕ). l ++ f n) (r .1) ∙ append-assoc (concat (listed i f) ++ f i) (r .0) (f n))
+
+-- what goes over `++` is made of what it does to each element
+pub piecewise : (h : List ℕ → List ℕ) → h [] ≡ [] → ((s t : List ℕ) → h (s ++ t) ≡ h s ++ h t)
+    → (s : List ℕ) → concat (listed (length s) (λ k. h (getD s k 0 ∷ []))) ≡ h s
+piecewise h none join s = upto (length s) (omega arith) ∙ ap h (take-length s)
+  where
+    f : ℕ → List ℕ
+    f k = h (getD s k 0 ∷ [])
+
+    upto : (n : ℕ) → n ≤ length s → concat (listed n f) ≡ h (take n s)
+    upto zero b = concat-none f ∙ sym none
+    upto (suc n) b =
+        ap (λ (m : ℕ). concat (listed m f)) (sym (add-one n)) ∙ concat-more f n ∙ ap (λ (l : List ℕ). l ++ f n) (upto n (omega arith))
+        ∙ sym (join (take n s) (getD s n 0 ∷ [])) ∙ ap h (sym (take-suc s n 0 b))
+
+-- a list is its elements, each a list of one
+pub singles : (s : List ℕ) → concat (listed (length s) (λ k. getD s k 0 ∷ [])) ≡ s
+singles s = piecewise (λ l. l) refl (λ s t. refl) s
+
+pub singles-listed : (g : ℕ → ℕ) (n : ℕ) → concat (listed n (λ k. g k ∷ [])) ≡ listed n g
+unfolding listed concat
+singles-listed g zero = refl
+singles-listed g (suc n) =
+    ap (λ (m : ℕ). concat (listed m (λ k. g k ∷ []))) (sym (add-one n)) ∙ concat-more (λ k. g k ∷ []) n
+    ∙ ap (λ (l : List ℕ). l ++ (g n ∷ [])) (singles-listed g n)
 
 -- a test of everything in n lists is a test of each of them
 pub all-concat : (p : ℕ → Bool) (f : ℕ → List ℕ) (n : ℕ) → all p (concat (listed n f)) ≡ every n (λ i. all p (f i))

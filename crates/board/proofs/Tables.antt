@@ -1,0 +1,50 @@
+-- Laws of the table's parts: cells one by one, and the parts of some bytes.
+use mathlib.Core.Path.{_≡_, refl, sym, ap, _∙_}
+use mathlib.Core.Bool.{Bool, true, false, cond, _||_}
+use mathlib.Core.List.{List, [], _∷_, _++_}
+use Prim.Native.Nat.{ℕ, zero, suc, _+_, _-_, _<_, _≤_}
+use native.Mathlib.Omega.{arith}
+use lib.Dec.{eqb}
+use lib.ListN.{length, getD, take, drop}
+use borrow.Author.Tests.{eq-eqb, ne-eqb, eqb-true}
+use Rattle.card.specs.Words.{listed, concat}
+use Rattle.card.specs.Card.{isCard}
+use Rattle.card.proofs.Words.{piecewise}
+use Rattle.board.specs.Table.{held}
+use Rattle.board.specs.Judged.{isCell}
+use Rattle.board.specs.Inner.{partAt}
+
+-- ---- cells
+
+pub cell-empty : (x : ℕ) → x ≡ 255 → held (x ∷ []) ≡ []
+unfolding held
+cell-empty x e = rw (eq-eqb x 255 e)
+
+pub cell-card : (x : ℕ) → (x ≡ 255 → ⊥) → held (x ∷ []) ≡ x ∷ []
+unfolding held
+cell-card x d = rw (ne-eqb x 255 d)
+
+pub cell-is-card : (x : ℕ) → isCell x ≡ true → (x ≡ 255 → ⊥) → isCard x ≡ true
+unfolding isCell
+cell-is-card x e d = rw (ne-eqb x 255 d) at e
+
+held-append : (s t : List ℕ) → held (s ++ t) ≡ held s ++ held t
+unfolding held
+held-append [] t = refl
+held-append (x ∷ s) t = in-front (eqb x 255) (held-append s t)
+  where
+    in-front : (b : Bool) → held (s ++ t) ≡ held s ++ held t → cond b (held (s ++ t)) (x ∷ held (s ++ t)) ≡ cond b (held s) (x ∷ held s) ++ held t
+    in-front true e = e
+    in-front false e = ap (λ (l : List ℕ). x ∷ l) e
+
+pub held-each : (s : List ℕ) → concat (listed (length s) (λ k. held (getD s k 0 ∷ []))) ≡ held s
+unfolding held
+held-each s = piecewise held refl held-append s
+
+-- ---- parts
+
+pub part-is : (starts counts codes : List ℕ) (i w : ℕ) → w ≡ getD counts i 0
+    → take ((getD starts i 0 + w) - getD starts i 0) (drop (getD starts i 0) codes) ≡ partAt starts counts codes i
+unfolding partAt
+part-is starts counts codes i w e =
+    ap (λ (n : ℕ). take n (drop (getD starts i 0) codes)) (let q : (getD starts i 0 + w) - getD starts i 0 ≡ getD counts i 0 = omega arith in q)

@@ -1,0 +1,57 @@
+-- The board record: what it shows, when its shape is good, and the record of a table.
+use mathlib.Core.Bool.{Bool, _&&_}
+use mathlib.Core.List.{List, []}
+use Prim.Native.Nat.{ℕ, _+_, _-_, _*_, _/_, _%_}
+use lib.ListN.{length, getD, take, drop, replicate}
+use lib.Dec.{eqb, leb}
+use Rattle.card.specs.Words.{every, all, listed}
+use Rattle.card.specs.Answer.{Answer, given, refused, unless}
+use Rattle.board.specs.Table.{Table}
+use Rattle.board.specs.Judged.{Verdict, judged}
+use Rattle.board.specs.declared.Board.{Board}
+
+-- the room that a record has for each column
+abbrev pub room : ℕ
+room = 52
+
+-- a count of at most n
+abbrev pub atMost : ℕ → ℕ → Bool
+atMost n x = leb x n
+
+abbrev pub isZero : ℕ → Bool
+isZero x = eqb x 0
+
+-- column i: the first codes of its room, as many as its count says
+unfoldable pub columnAt : List ℕ → List ℕ → ℕ → List ℕ
+columnAt counts tableau i = take (getD counts i 0) (drop (i * room) tableau)
+
+-- the rest of its room
+unfoldable pub spareAt : List ℕ → List ℕ → ℕ → List ℕ
+spareAt counts tableau i = take (room - getD counts i 0) (drop (i * room + getD counts i 0) tableau)
+
+-- the table that a record shows
+unfoldable pub shown : Board → Table
+shown b = record { cells = b .cells; foundation = b .foundation; columns = listed 8 (columnAt (b .counts) (b .tableau)) }
+
+-- columns within their room, foundations within 13, unused room zero
+unfoldable pub shapely : Board → Bool
+shapely b =
+    all (atMost room) (b .counts) && (all (atMost 13) (b .foundation) && every 8 (λ i. all isZero (spareAt (b .counts) (b .tableau) i)))
+
+-- the first of 12, 13, 14, 15 that holds, or fine
+unfoldable pub examined : Board → Verdict
+examined b = unless (shapely b) 12 (judged (shown b))
+
+-- the record of a table: place p of the flat array is row p mod room of column p div room, and 0 where that column has no such row
+unfoldable pub boardOf : Table → Board
+boardOf t =
+    record {
+      cells = t .cells;
+      foundation = t .foundation;
+      counts = listed 8 (λ i. length (getD (t .columns) i []));
+      tableau = listed (8 * room) (λ p. getD (getD (t .columns) (p / room) []) (p % room) 0)
+    }
+
+-- the record beside a refusal: all zero, which is itself refused (13) wherever a board is asked for
+unfoldable pub blank : Board
+blank = record { cells = replicate 4 0; foundation = replicate 4 0; counts = replicate 8 0; tableau = replicate (8 * room) 0 }

@@ -1,0 +1,92 @@
+// The board record and what a card player sees on it (after freecell/board.rs, first half).
+ghost use mathlib.Core.Path.{_≡_};
+ghost use Rattle.board.specs.Record.{examined};
+ghost use Rattle.board.specs.Refusal.{numberOf, examinedTold};
+
+use card::Card;
+
+mod mask;
+//mod judge;
+
+// Four cells (a card's code, or 255), four foundation counts, eight column counts, and eight columns of room for 52
+// codes each, the deepest first; unused room is zero.
+pub struct Board {
+    pub cells: [u8; 4],
+    pub foundation: [u8; 4],
+    pub counts: [u8; 8],
+    pub tableau: [u8; 416],
+}
+
+// Why something is refused; specs/Refusal.antt has document 01's number for each.
+pub enum Refusal {
+    WrongLength,
+    WrongVersion,
+    WrongShape,
+    NoCard,
+    CardTwice,
+    CardMissing,
+    NoDeck,
+    OutOfRange,
+}
+
+pub enum Examined {
+    WellFormed,
+    Refused(Refusal),
+}
+
+// A board beside what was said of it; after a refusal the board is all zero.
+pub struct Reading {
+    pub said: Examined,
+    pub board: Board,
+}
+
+// The top of a column, or what a cell shows: the Rust's `Option<Card>`.
+pub enum Top {
+    Is(Card),
+    Empty,
+}
+
+pub enum TopAnswer {
+    Shows(Top),
+    Refused(Refusal),
+}
+
+pub enum CountAnswer {
+    Count(u8),
+    Refused(Refusal),
+}
+
+pub enum WonAnswer {
+    Won,
+    NotWon,
+    Refused(Refusal),
+}
+
+// The cards seen so far, a bit a card, or that one came twice.
+pub enum Seen {
+    Cards(u64),
+    Twice,
+}
+
+// A byte as an index.
+fn wide(x: u8) -> usize
+    ensures { λ r. ⌜ r ≡ x ⌝ }
+{
+    x as usize
+}
+
+// Document 01's number of a refusal.
+pub fn number(why: Refusal) -> u8
+    ensures { λ r. ⌜ r ≡ numberOf why ⌝ }
+{
+    match why {
+        Refusal::WrongLength => 10,
+        Refusal::WrongVersion => 11,
+        Refusal::WrongShape => 12,
+        Refusal::NoCard => 13,
+        Refusal::CardTwice => 14,
+        Refusal::CardMissing => 15,
+        Refusal::NoDeck => 16,
+        Refusal::OutOfRange => 30,
+    }
+}
