@@ -111,6 +111,9 @@ pub marks-twice : {seen : ℕ} {s : List ℕ} → Marks seen s Twice → (t : Li
 marks-twice {s = s} a t =
     record { below = tt; knows = λ l k. subst (λ (m : List ℕ). noneTwice m ≡ false) (append-assoc l s t) (twice-stays (l ++ s) t (a .knows l k)) }
 
+pub marks-as : {seen : ℕ} {s : List ℕ} {r q : Seen} → Marks seen s r → r ≡ q → Marks seen s q
+marks-as {seen} {s} m e = subst (λ (q : Seen). Marks seen s q) e m
+
 -- ---- a loop over n lists: before the first, after one more, at the first repeat, at the end
 
 -- the cards of the first i lists are looked at
@@ -128,14 +131,14 @@ module _ {seen : ℕ} (f : ℕ → List ℕ) (n : ℕ) where
       record {
         within = omega arith;
         marks = subst (λ (l : List ℕ). Marks seen l (Cards more)) (sym (concat-more f i))
-            (marks-more (a .marks) (subst (λ (q : Seen). Marks cards (f i) q) e b))
+            (marks-more (a .marks) (marks-as b e))
       }
 
   pub pass-stop : {cards i : ℕ} {r : Seen} → Passed seen f n cards i → i < n → Marks cards (f i) r → r ≡ Twice → Marks seen (concat (listed n f)) Twice
   pass-stop {cards} {i} a h b e =
       let s = concat-split f n i h in
       subst (λ (l : List ℕ). Marks seen l Twice) (sym (s .1))
-      (marks-twice (marks-more (a .marks) (subst (λ (q : Seen). Marks cards (f i) q) e b)) (s .0))
+      (marks-twice (marks-more (a .marks) (marks-as b e)) (s .0))
 
   pub pass-end : {cards i : ℕ} → Passed seen f n cards i → n ≤ i → Marks seen (concat (listed n f)) (Cards cards)
   pass-end {cards} {i} a h =

@@ -2,17 +2,18 @@
 use mathlib.Core.Path.{_≡_, refl, sym, ap, _∙_}
 use mathlib.Core.Bool.{Bool, true, false, cond, _||_}
 use mathlib.Core.List.{List, [], _∷_, _++_}
-use Prim.Native.Nat.{ℕ, zero, suc, _+_, _-_, _<_, _≤_}
+use Prim.Native.Nat.{ℕ, zero, suc, _+_, _-_, _*_, _<_, _≤_}
 use native.Mathlib.Omega.{arith}
 use lib.Dec.{eqb}
 use lib.ListN.{length, getD, take, drop}
-use borrow.Author.Tests.{eq-eqb, ne-eqb, eqb-true}
-use Rattle.card.specs.Words.{listed, concat}
+use borrow.Author.Tests.{eq-eqb, ne-eqb, leb-true}
+use Rattle.card.specs.Words.{all, listed, concat}
 use Rattle.card.specs.Card.{isCard}
-use Rattle.card.proofs.Words.{piecewise}
+use Rattle.card.proofs.Words.{piecewise, all-at}
 use Rattle.board.specs.Table.{held}
 use Rattle.board.specs.Judged.{isCell}
-use Rattle.board.specs.Inner.{partAt}
+use Rattle.board.specs.Record.{atMost, spareAt}
+use Rattle.board.specs.Inner.{GoodCells, GoodPiles, partAt}
 
 -- ---- cells
 
@@ -48,3 +49,21 @@ pub part-is : (starts counts codes : List ℕ) (i w : ℕ) → w ≡ getD counts
 unfolding partAt
 part-is starts counts codes i w e =
     ap (λ (n : ℕ). take n (drop (getD starts i 0) codes)) (let q : (getD starts i 0 + w) - getD starts i 0 ≡ getD counts i 0 = omega arith in q)
+
+pub spare-is : (counts tableau : List ℕ) (i w : ℕ) → w ≡ getD counts i 0
+    → take ((i * 52 + 52) - (i * 52 + w)) (drop (i * 52 + w) tableau) ≡ spareAt counts tableau i
+unfolding spareAt
+spare-is counts tableau i w e =
+    ap (λ (n : ℕ). take n (drop (i * 52 + w) tableau)) (let q : (i * 52 + 52) - (i * 52 + w) ≡ 52 - w = omega arith in q)
+    ∙ ap (λ (n : ℕ). take (52 - n) (drop (i * 52 + n) tableau)) e
+
+-- ---- counts
+
+pub at-most : (n : ℕ) (s : List ℕ) → all (atMost n) s ≡ true → (i : ℕ) → i < length s → getD s i 0 ≤ n
+at-most n s e i h = leb-true (getD s i 0) n (all-at (atMost n) s e i h)
+
+pub good-piles : (foundation : List ℕ) → length foundation ≡ 4 → all (atMost 13) foundation ≡ true → GoodPiles foundation
+good-piles foundation four e = record { four = four; within = λ s h. at-most 13 foundation e s (omega arith) }
+
+pub good-cells : (cells : List ℕ) → length cells ≡ 4 → all isCell cells ≡ true → GoodCells cells
+good-cells cells four e = record { four = four; codes = λ i h. all-at isCell cells e i (omega arith) }

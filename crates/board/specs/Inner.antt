@@ -1,6 +1,6 @@
 -- What the inner functions ask of the parts of a record that is known to be well formed, place by place.
 use mathlib.Core.Path.{_≡_}
-use mathlib.Core.Bool.{true, false}
+use mathlib.Core.Bool.{Bool, true, false}
 use mathlib.Core.List.{List, _++_}
 use Prim.Native.Nat.{ℕ, _+_, _*_, _^_, _/_, _%_, _<_, _≤_}
 use lib.ListN.{length, getD, take, drop}
@@ -9,8 +9,10 @@ use Rattle.card.specs.Card.{isCard}
 use Rattle.card.specs.Pack.{cardAt}
 use Rattle.board.specs.Table.{cardsOn}
 use Rattle.board.specs.Judged.{isCell, noneTwice}
-use Rattle.board.specs.Record.{room, columnAt, shown}
+use Rattle.board.specs.Record.{room, atMost, shown}
 use Rattle.board.specs.declared.Board.{Board}
+use Rattle.board.specs.declared.Kind.{Kind}
+use Rattle.board.specs.declared.Kind.the-variants.{Card, Cell, AtMost}
 use Rattle.board.specs.declared.Seen.{Seen}
 use Rattle.board.specs.declared.Seen.the-variants.{Cards, Twice}
 
@@ -44,6 +46,13 @@ pub record Sized (b : Board) : Type 0 where
   pub piles : length (b .foundation) ≡ 4
   pub eight : length (b .counts) ≡ 8
   pub full : length (b .tableau) ≡ 8 * room
+
+-- ---- what a loop asks of each byte
+
+abbrev pub isKind : Kind → ℕ → Bool
+isKind Card x = isCard x
+isKind Cell x = isCell x
+isKind (AtMost n) x = atMost n x
 
 -- ---- the eight columns as parts of some bytes, and the cards seen as one number
 

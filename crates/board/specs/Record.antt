@@ -3,7 +3,7 @@ use mathlib.Core.Bool.{Bool, _&&_}
 use mathlib.Core.List.{List, []}
 use Prim.Native.Nat.{ℕ, _+_, _-_, _*_, _/_, _%_}
 use lib.ListN.{length, getD, take, drop, replicate}
-use lib.Dec.{eqb, leb}
+use lib.Dec.{leb}
 use Rattle.card.specs.Words.{every, all, listed}
 use Rattle.card.specs.Answer.{Answer, given, refused, unless}
 use Rattle.board.specs.Table.{Table}
@@ -19,7 +19,7 @@ abbrev pub atMost : ℕ → ℕ → Bool
 atMost n x = leb x n
 
 abbrev pub isZero : ℕ → Bool
-isZero x = eqb x 0
+isZero = atMost 0
 
 -- column i: the first codes of its room, as many as its count says
 unfoldable pub columnAt : List ℕ → List ℕ → ℕ → List ℕ

@@ -6,7 +6,7 @@ ghost use Rattle.board.specs.Refusal.{numberOf, examinedTold};
 use card::Card;
 
 mod mask;
-//mod judge;
+mod judge;
 
 // Four cells (a card's code, or 255), four foundation counts, eight column counts, and eight columns of room for 52
 // codes each, the deepest first; unused room is zero.
@@ -60,6 +60,13 @@ pub enum WonAnswer {
     Won,
     NotWon,
     Refused(Refusal),
+}
+
+// What is asked of each byte of a list.
+pub enum Kind {
+    Card,
+    Cell,
+    AtMost(u8),
 }
 
 // The cards seen so far, a bit a card, or that one came twice.

@@ -68,6 +68,10 @@ module _ (p : ℕ → Bool) where
   every-by zero h = refl
   every-by (suc n) h = both (every-by n (λ k l. h k (omega arith))) (h n (omega arith))
 
+  -- what a checking loop knows at its end
+  pub every-end : (n i : ℕ) → every i p ≡ true → n ≤ i → every n p ≡ true
+  every-end n i e h = every-by n (λ k l. every-at i e k (omega arith))
+
   pub every-fails : (n k : ℕ) → k < n → p k ≡ false → every n p ≡ false
   every-fails n k h f = not-so (every n p) (λ e. true-or-not (p k) (every-at n e k h) f)
 
