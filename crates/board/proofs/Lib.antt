@@ -2,3 +2,6 @@ pub mod Bits
 pub mod Marks
 pub mod Tables
 pub mod Judging
+pub mod Filling
+pub mod Walking
+pub mod Imaging

@@ -1,0 +1,1 @@
+// The plain questions about a board.
