@@ -5,3 +5,6 @@ pub mod Judging
 pub mod Filling
 pub mod Walking
 pub mod Imaging
+pub mod Dealing
+pub mod Soundness
+pub mod Asking

@@ -55,7 +55,7 @@ pub enum TopAnswer {
 }
 
 pub enum CountAnswer {
-    Count(u8),
+    Count(usize),
     Refused(Refusal),
 }
 

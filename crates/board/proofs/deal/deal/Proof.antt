@@ -1,60 +1,59 @@
--- What `deal` leaves to be shown.
+-- What `deal` leaves to be shown, refusal by refusal, and the board.
+use mathlib.Core.Path.{sym, ap, _∙_}
+use mathlib.Core.List.{List, [], _∷_}
+use Prim.Native.Nat.{ℕ}
+use lib.ListN.{replicate}
+use borrow.Author.Tests.{not-true, not-false}
+use lib.Dec.{lit<}
+use Rattle.card.specs.Answer.{given}
+use Rattle.board.specs.declared.Board.{Board}
+use Rattle.board.proofs.Imaging.{hands-no, hands-yes}
+use Rattle.board.proofs.Dealing.{no-deck, deck-code, deck-twice, deck-dealt, board-dealt}
 use borrow.Author.Needs.{needs}
 use Rattle.board.proofs.deal.deal.Statement.{statement}
 use Rattle.board.proofs.deal.deal.Tie as tie
-use Rattle.board.proofs.deal.deal.Reads as reads
-use Rattle.board.proofs.deal.deal.Lts as lts
-use Rattle.board.proofs.deal.lay_out.Reads as lay-out-reads
-use Rattle.board.proofs.judge.all_of.Reads as all-of-reads
-use Rattle.board.proofs.mask.mark_all.Reads as mark-all-reads
-use Rattle.board.proofs.no_board.Reads as no-board-reads
 
--- src/deal.rt:51:9
 no-board-requires : tie.Need-no-board-requires
 no-board-requires c κs = search needs
 
--- src/deal.rt:51:9
 returns : tie.Need-returns
-returns c = search needs
+returns c = hands-no (c .no-board .ensures) (no-deck (c .before .before .before .args .deck .now) (c .before .if1 .taken))
 
--- src/deal.rt:53:9
 all-of-requires : tie.Need-all-of-requires
 all-of-requires c κs = search needs
 
--- src/deal.rt:54:9
 no-board-requires-2 : tie.Need-no-board-requires-2
 no-board-requires-2 c κs = search needs
 
--- src/deal.rt:54:9
 returns-2 : tie.Need-returns-2
-returns-2 c = search needs
+returns-2 c =
+    hands-no (c .no-board2 .ensures) (deck-code (c .before .before .before .before .before .args .deck .now) (c .before .before .before .if1 .left) (sym (c .before .before .all-of .ensures) ∙ not-true _ (c .before .if2 .taken)))
 
--- src/deal.rt:56:26
 mark-all-requires : tie.Need-mark-all-requires
-mark-all-requires c κs = search needs
+mark-all-requires c κs = (lit< tt, (sym (c .before .all-of .ensures) ∙ not-false _ (c .if2 .left)))
 
 enum-told : tie.Need-enum-told
 enum-told c = search needs
 
--- src/deal.rt:57:25
 enum-told-2 : tie.Need-enum-told-2
 enum-told-2 c = search needs
 
--- src/deal.rt:57:9
 no-board-requires-3 : tie.Need-no-board-requires-3
 no-board-requires-3 c κs = search needs
 
--- src/deal.rt:57:9
 returns-3 : tie.Need-returns-3
-returns-3 c = search needs
+returns-3 c =
+    hands-no (c .no-board3 .ensures) (deck-twice (c .before .before .before .before .before .before .before .before .args .deck .now) (c .before .before .before .before .before .before .if1 .left) (sym (c .before .before .before .before .before .all-of .ensures) ∙ not-false _ (c .before .before .before .before .if2 .left)) (c .before .before .before .mark-all .ensures) (c .before .enum-told2 .given .1))
 
--- src/deal.rt:59:9
 lay-out-requires : tie.Need-lay-out-requires
 lay-out-requires c κs = search needs
 
--- src/deal.rt:47:1
 returns-4 : tie.Need-returns-4
-returns-4 c = search needs
+returns-4 c =
+    hands-yes
+    (deck-dealt (c .before .before .before .before .before .before .before .before .args .deck .now) (c .before .before .before .before .before .before .if1 .left) (sym (c .before .before .before .before .before .all-of .ensures) ∙ not-false _ (c .before .before .before .before .if2 .left)) (c .before .before .before .mark-all .ensures) (c .before .enum-told .given .1)
+    ∙ ap (λ (b : Board). given b) (board-dealt (c .before .before .before .before .before .before .before .before .args .deck .now) (c .before .before .before .before .before .before .if1 .left))
+    ∙ ap (λ (t : List ℕ). given (record { cells = replicate 4 255; foundation = replicate 4 0; counts = 7 ∷ 7 ∷ 7 ∷ 7 ∷ 6 ∷ 6 ∷ 6 ∷ 6 ∷ []; tableau = t })) (sym (c .lay-out .ensures)))
 
 pub deal-spec : {M : Type 1} → statement M
 deal-spec =

@@ -1,0 +1,99 @@
+-- A record that is examined and fine is sound at every place, and the other way round.
+use mathlib.Core.Path.{_≡_, refl, sym, ap, _∙_, subst}
+use mathlib.Core.Bool.{Bool, true, false, _&&_}
+use mathlib.Core.List.{List, []}
+use Prim.Native.Nat.{ℕ, zero, suc, _+_, _-_, _*_, _<_, _≤_}
+use native.Mathlib.Omega.{arith}
+use borrow.Author.Tests.{leb-true, le-leb}
+use lib.Dec.{leb}
+use lib.ListN.{length, getD, take, drop, length-take, length-drop}
+use lib.Seq.{getD-take, getD-drop}
+use Rattle.card.specs.Words.{every, all, occurs, listed, concat}
+use Rattle.card.specs.Answer.{Answer, given, refused, unless}
+use Rattle.card.specs.Card.{isCard}
+use Rattle.card.specs.Pack.{cardAt}
+use Rattle.card.proofs.Words.{both, first, second, every-at, every-by, all-at, all-by, all-concat}
+use Rattle.board.specs.Table.{Table, cardsOn}
+use Rattle.board.specs.Judged.{Verdict, fine, isCell, onlyCards, noneTwice, noneMissing, judged, wellFormed}
+use Rattle.board.specs.Record.{room, atMost, isZero, columnAt, spareAt, shown, shapely, examined}
+use Rattle.board.specs.Inner.{GoodCells, GoodPiles, GoodColumns, Sound, Sized}
+use Rattle.board.specs.declared.Board.{Board}
+use Rattle.board.proofs.Marks.{none-twice, none-twice-at, none-missing, none-missing-at}
+use Rattle.board.proofs.Tables.{at-most, good-cells, good-piles}
+
+-- ---- a verdict that is fine passed every test
+
+passed : (ok : Bool) (n : ℕ) (v : Verdict) → unless ok n v ≡ fine → (ok ≡ true) × (v ≡ fine)
+passed true n v e = (refl, e)
+passed false n v e = let z : _≡_ {A = ℕ} 0 1 = cc in absurd (let w : ⊥ = omega arith in w)
+
+-- ---- the columns of a record
+
+module _ (counts tableau : List ℕ) (i : ℕ) where
+  column-long : length tableau ≡ 8 * room → i < 8 → getD counts i 0 ≤ room → length (columnAt counts tableau i) ≡ getD counts i 0
+  unfolding columnAt
+  column-long full h w =
+      length-take (getD counts i 0) (drop (i * room) tableau) ∙ (let l = length-drop (i * room) tableau in omega arith)
+
+  pub column-code : (j : ℕ) → j < getD counts i 0 → getD (columnAt counts tableau i) j 0 ≡ getD tableau (i * room + j) 0
+  unfolding columnAt
+  column-code j h = getD-take (getD counts i 0) (drop (i * room) tableau) j 0 h ∙ getD-drop (i * room) tableau j 0
+
+  spare-long : length tableau ≡ 8 * room → i < 8 → getD counts i 0 ≤ room → length (spareAt counts tableau i) ≡ room - getD counts i 0
+  unfolding spareAt
+  spare-long full h w =
+      length-take (room - getD counts i 0) (drop (i * room + getD counts i 0) tableau)
+      ∙ (let l = length-drop (i * room + getD counts i 0) tableau in omega arith)
+
+  spare-code : (k : ℕ) → k < room - getD counts i 0 → getD (spareAt counts tableau i) k 0 ≡ getD tableau (i * room + (getD counts i 0 + k)) 0
+  unfolding spareAt
+  spare-code k b =
+      getD-take (room - getD counts i 0) (drop (i * room + getD counts i 0) tableau) k 0 b
+      ∙ getD-drop (i * room + getD counts i 0) tableau k 0
+      ∙ ap (λ (p : ℕ). getD tableau p 0) (let q : i * room + getD counts i 0 + k ≡ i * room + (getD counts i 0 + k) = omega arith in q)
+
+pub column-length : {counts tableau : List ℕ} → GoodColumns counts tableau → (i : ℕ) → i < 8 → length (columnAt counts tableau i) ≡ getD counts i 0
+column-length {counts} {tableau} g i h = column-long counts tableau i (g .full) h (g .within i h)
+
+-- ---- from the tests to the places
+
+shape-piles : (b : Board) → shapely b ≡ true → all (atMost 13) (b .foundation) ≡ true
+unfolding shapely
+shape-piles b e = first (all (atMost 13) (b .foundation)) _ (second (all (atMost room) (b .counts)) _ e)
+
+module _ (b : Board) (z : Sized b) where
+  good-columns : shapely b ≡ true → all isCard (concat (listed 8 (columnAt (b .counts) (b .tableau)))) ≡ true → GoodColumns (b .counts) (b .tableau)
+  unfolding shapely
+  good-columns e c =
+      let counts = first (all (atMost room) (b .counts)) _ e in
+      let spares = second (all (atMost 13) (b .foundation)) _ (second (all (atMost room) (b .counts)) _ e) in
+      let within : (i : ℕ) → i < 8 → getD (b .counts) i 0 ≤ room = λ i h. at-most room (b .counts) counts i (let l = z .eight in omega arith) in
+      record {
+        eight = z .eight;
+        full = z .full;
+        within = within;
+        codes = λ i j h l. subst (λ (x : ℕ). isCard x ≡ true) (column-code (b .counts) (b .tableau) i j l)
+            (all-at isCard (columnAt (b .counts) (b .tableau) i)
+            (every-at (λ k. all isCard (columnAt (b .counts) (b .tableau) k)) 8 (sym (all-concat isCard (columnAt (b .counts) (b .tableau)) 8) ∙ c) i h)
+            j (let n = column-long (b .counts) (b .tableau) i (z .full) h (within i h) in omega arith));
+        spare = λ i j h l m.
+            let zero-there = at-most 0 (spareAt (b .counts) (b .tableau) i) (every-at (λ k. all isZero (spareAt (b .counts) (b .tableau) k)) 8 spares i h)
+                  (j - getD (b .counts) i 0) (let n = spare-long (b .counts) (b .tableau) i (z .full) h (within i h) in omega arith) in
+            let there = spare-code (b .counts) (b .tableau) i (j - getD (b .counts) i 0) (omega arith) in
+            let place = ap (λ (p : ℕ). getD (b .tableau) p 0) (let q : i * room + (getD (b .counts) i 0 + (j - getD (b .counts) i 0)) ≡ i * room + j = omega arith in q) in
+            omega arith
+      }
+
+  pub sound : examined b ≡ fine → Sound b
+  unfolding examined judged onlyCards shown
+  sound e =
+      let s = passed (shapely b) 12 (judged (shown b)) e in
+      let o = passed (onlyCards (shown b)) 13 _ (s .1) in
+      let t = passed (noneTwice (cardsOn (shown b))) 14 _ (o .1) in
+      let m = passed (noneMissing (cardsOn (shown b))) 15 _ (t .1) in
+      record {
+        inCells = good-cells (b .cells) (z .four) (first (all isCell (b .cells)) _ (o .0));
+        inPiles = good-piles (b .foundation) (z .piles) (shape-piles b (s .0));
+        inColumns = good-columns (s .0) (second (all isCell (b .cells)) _ (o .0));
+        once = λ k h. let a = none-twice-at (cardsOn (shown b)) (t .0) k h in let c = none-missing-at (cardsOn (shown b)) (m .0) k h in omega arith
+      }
