@@ -75,5 +75,5 @@ ones-are-bits (suc m) n h =
     let i = ones-are-bits m (n / 2) (omega arith) in
     ones-step n
     ∙ (let e = front (λ k. bitAt n k) m in
-       let s = sum-same (λ k. bitAt n (suc k)) (λ k. bitAt (n / 2) k) m (λ k l. bit-next n k) in
-       omega (arith, bit-first n))
+    let s = sum-same (λ k. bitAt n (suc k)) (λ k. bitAt (n / 2) k) m (λ k l. bit-next n k) in
+    omega (arith, bit-first n))

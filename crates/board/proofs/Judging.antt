@@ -97,7 +97,7 @@ record-parts counts tableau eight full e =
     record {
       starts8 = refl;
       counts8 = eight;
-      within = λ i h. let s = start-of i h in let c = at-most room counts e i (omega arith) in omega arith
+      within = λ i h. let s = start-of i h in let c = at-most room counts e i (omega arith) in omega arith;
     }
 
 pub parts-are-columns : (counts tableau : List ℕ) → listed 8 (partAt roomStarts counts tableau) ≡ listed 8 (columnAt counts tableau)

@@ -2,9 +2,4 @@ pub mod Bits
 pub mod Marks
 pub mod Tables
 pub mod Judging
-pub mod Filling
-pub mod Walking
-pub mod Imaging
-pub mod Dealing
 pub mod Soundness
-pub mod Asking

@@ -68,9 +68,9 @@ module _ (seen code : ℕ) (card : isCard code ≡ true) where
         below = tt;
         knows = λ l h. twice-fails (l ++ (code ∷ [])) (placeOf code) (place-below code card)
             (let a = h .bits (placeOf code) (place-below code card) in
-             let o = occurs-append (cardAt (placeOf code)) l (code ∷ []) in
-             let n = one-here (cardAt (placeOf code)) code (at-place code card) in
-             omega arith)
+            let o = occurs-append (cardAt (placeOf code)) l (code ∷ []) in
+            let n = one-here (cardAt (placeOf code)) code (at-place code card) in
+            omega arith);
       }
 
   new-bits : (l : List ℕ) → Holds seen l → bitAt seen (placeOf code) ≡ 0 → (k : ℕ) → k < 52 → Dec (k ≡ placeOf code)
@@ -78,10 +78,10 @@ module _ (seen code : ℕ) (card : isCard code ≡ true) where
   new-bits l h e k b (yes q) =
       subst (λ (j : ℕ). bitAt (seen + 2 ^ placeOf code) j ≡ occurs (cardAt j) (l ++ (code ∷ []))) (sym q)
       (let a = h .bits (placeOf code) (place-below code card) in
-       let o = occurs-append (cardAt (placeOf code)) l (code ∷ []) in
-       let n = one-here (cardAt (placeOf code)) code (at-place code card) in
-       let f = bit-here (placeOf code) seen e in
-       omega arith)
+      let o = occurs-append (cardAt (placeOf code)) l (code ∷ []) in
+      let n = one-here (cardAt (placeOf code)) code (at-place code card) in
+      let f = bit-here (placeOf code) seen e in
+      omega arith)
   new-bits l h e k b (no q) =
       let a = h .bits k b in
       let o = occurs-append (cardAt k) l (code ∷ []) in
@@ -95,7 +95,7 @@ module _ (seen code : ℕ) (card : isCard code ≡ true) where
       let f : seen + 2 ^ placeOf code < 2 ^ 52 = bit-fits 52 (placeOf code) seen (place-below code card) h e in
       record {
         below = f;
-        knows = λ l k. record { below = f; bits = λ j b. new-bits l k e j b (ℕ-discrete j (placeOf code)) }
+        knows = λ l k. record { below = f; bits = λ j b. new-bits l k e j b (ℕ-discrete j (placeOf code)) };
       }
 
 -- ---- none, and more
@@ -131,7 +131,7 @@ module _ {seen : ℕ} (f : ℕ → List ℕ) (n : ℕ) where
       record {
         within = omega arith;
         marks = subst (λ (l : List ℕ). Marks seen l (Cards more)) (sym (concat-more f i))
-            (marks-more (a .marks) (marks-as b e))
+            (marks-more (a .marks) (marks-as b e));
       }
 
   pub pass-stop : {cards i : ℕ} {r : Seen} → Passed seen f n cards i → i < n → Marks cards (f i) r → r ≡ Twice → Marks seen (concat (listed n f)) Twice
@@ -158,10 +158,10 @@ pub ones-all : {seen : ℕ} {l : List ℕ} → Holds seen l → ones seen ≡ 52
 ones-all {seen} {l} h e =
     none-missing l
     (λ k b. let f = sum-full (λ j. bitAt seen j) 52 (λ j m. bit-small seen j) (sym (ones-are-bits 52 seen (h .below)) ∙ e) k b in
-      let a = h .bits k b in omega arith)
+    let a = h .bits k b in omega arith)
 
 pub ones-some : {seen : ℕ} {l : List ℕ} → Holds seen l → (ones seen ≡ 52 → ⊥) → noneMissing l ≡ false
 ones-some {seen} {l} h d =
     not-so (noneMissing l)
     (λ e. d (ones-are-bits 52 seen (h .below) ∙ sum-all (λ j. bitAt seen j) 52
-      (λ k b. let a = h .bits k b in let m = none-missing-at l e k b in let s = bit-small seen k in omega arith)))
+    (λ k b. let a = h .bits k b in let m = none-missing-at l e k b in let s = bit-small seen k in omega arith)))

@@ -78,10 +78,10 @@ module _ (b : Board) (z : Sized b) where
             j (let n = column-long (b .counts) (b .tableau) i (z .full) h (within i h) in omega arith));
         spare = λ i j h l m.
             let zero-there = at-most 0 (spareAt (b .counts) (b .tableau) i) (every-at (λ k. all isZero (spareAt (b .counts) (b .tableau) k)) 8 spares i h)
-                  (j - getD (b .counts) i 0) (let n = spare-long (b .counts) (b .tableau) i (z .full) h (within i h) in omega arith) in
+            (j - getD (b .counts) i 0) (let n = spare-long (b .counts) (b .tableau) i (z .full) h (within i h) in omega arith) in
             let there = spare-code (b .counts) (b .tableau) i (j - getD (b .counts) i 0) (omega arith) in
             let place = ap (λ (p : ℕ). getD (b .tableau) p 0) (let q : i * room + (getD (b .counts) i 0 + (j - getD (b .counts) i 0)) ≡ i * room + j = omega arith in q) in
-            omega arith
+            omega arith;
       }
 
   pub sound : examined b ≡ fine → Sound b
@@ -95,5 +95,5 @@ module _ (b : Board) (z : Sized b) where
         inCells = good-cells (b .cells) (z .four) (first (all isCell (b .cells)) _ (o .0));
         inPiles = good-piles (b .foundation) (z .piles) (shape-piles b (s .0));
         inColumns = good-columns (s .0) (second (all isCell (b .cells)) _ (o .0));
-        once = λ k h. let a = none-twice-at (cardsOn (shown b)) (t .0) k h in let c = none-missing-at (cardsOn (shown b)) (m .0) k h in omega arith
+        once = λ k h. let a = none-twice-at (cardsOn (shown b)) (t .0) k h in let c = none-missing-at (cardsOn (shown b)) (m .0) k h in omega arith;
       }

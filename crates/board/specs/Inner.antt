@@ -4,17 +4,13 @@ use mathlib.Core.Bool.{Bool, true, false}
 use mathlib.Core.List.{List, _++_}
 use Prim.Native.Nat.{ℕ, _+_, _*_, _^_, _/_, _%_, _<_, _≤_}
 use lib.ListN.{length, getD, take, drop}
-use Rattle.card.specs.Words.{occurs, listed}
-use Rattle.card.specs.Answer.{Answer, given, refused}
+use Rattle.card.specs.Words.{occurs}
 use Rattle.card.specs.Card.{isCard}
 use Rattle.card.specs.Pack.{cardAt}
 use Rattle.board.specs.Table.{cardsOn}
 use Rattle.board.specs.Judged.{isCell, noneTwice}
 use Rattle.board.specs.Record.{room, atMost, shown}
-use Rattle.board.specs.Refusal.{readingTold, beside}
-use Rattle.board.specs.Image.{columnsIn}
 use Rattle.board.specs.declared.Board.{Board}
-use Rattle.board.specs.declared.Reading.{Reading}
 use Rattle.board.specs.declared.Kind.{Kind}
 use Rattle.board.specs.declared.Kind.the-variants.{Card, Cell, AtMost}
 use Rattle.board.specs.declared.Seen.{Seen}
@@ -91,23 +87,3 @@ Below Twice = Unit {0}
 pub record Marks (seen : ℕ) (s : List ℕ) (r : Seen) : Type 0 where
   pub below : Below r
   pub knows : (l : List ℕ) → Holds seen l → Knows r (l ++ s)
-
--- ---- reading and dealing
-
--- a reading hands over an answer: the number or the board, and what lies beside it
-pub record Hands (a : Answer Board) (r : Reading) : Type 0 where
-  pub told : readingTold r ≡ a
-  pub board : r .board ≡ beside a
-
--- where the columns of an image lie, or that they do not end where it does (its columns begin at byte 11)
-pub record Outlined (image : List ℕ) (ok : Bool) (starts counts : List ℕ) : Type 0 where
-  pub parts : ok ≡ true → Parts starts counts image
-  pub columns : ok ≡ true → columnsIn 8 (drop 11 image) ≡ given (listed 8 (partAt starts counts image))
-  pub none : ok ≡ false → columnsIn 8 (drop 11 image) ≡ refused 12
-
--- the flat array's code at place p, for columns that are parts of some bytes, and for a deck
-abbrev pub partCode : List ℕ → List ℕ → List ℕ → ℕ → ℕ
-partCode starts counts codes p = getD (partAt starts counts codes (p / room)) (p % room) 0
-
-abbrev pub deckCode : List ℕ → ℕ → ℕ
-deckCode deck p = getD deck (p % room * 8 + p / room) 0

@@ -2,7 +2,7 @@
 use mathlib.Core.Bool.{Bool, _&&_}
 use mathlib.Core.List.{List, []}
 use Prim.Native.Nat.{ℕ, _+_, _-_, _*_, _/_, _%_}
-use lib.ListN.{length, getD, take, drop, replicate}
+use lib.ListN.{length, getD, take, drop}
 use lib.Dec.{leb}
 use Rattle.card.specs.Words.{every, all, listed}
 use Rattle.card.specs.Answer.{Answer, given, refused, unless}
@@ -49,9 +49,5 @@ boardOf t =
       cells = t .cells;
       foundation = t .foundation;
       counts = listed 8 (λ i. length (getD (t .columns) i []));
-      tableau = listed (8 * room) (λ p. getD (getD (t .columns) (p / room) []) (p % room) 0)
+      tableau = listed (8 * room) (λ p. getD (getD (t .columns) (p / room) []) (p % room) 0);
     }
-
--- the record beside a refusal: all zero, which is itself refused (13) wherever a board is asked for
-unfoldable pub blank : Board
-blank = record { cells = replicate 4 0; foundation = replicate 4 0; counts = replicate 8 0; tableau = replicate (8 * room) 0 }

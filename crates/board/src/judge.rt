@@ -10,13 +10,11 @@ ghost use Rattle.board.specs.Judged.{isCell, judged};
 ghost use Rattle.board.specs.Record.{room, atMost, isZero, spareAt, examined};
 ghost use Rattle.board.specs.Refusal.{examinedTold};
 ghost use Rattle.board.specs.Inner.{isKind, Marks, GoodCells, GoodPiles, Parts, partAt, Sized};
-
 use crate::Examined;
 use crate::Kind;
 use crate::Refusal;
 use crate::Seen;
 use crate::mask;
-use crate::wide;
 
 // Where each column's room begins in a record.
 const STARTS: [usize; 8] = [0, 52, 104, 156, 208, 260, 312, 364];
@@ -58,7 +56,7 @@ fn columns_are_cards<'a>(starts: &'a [usize; 8], counts: &'a [u8; 8], codes: &'a
     let mut i = 0;
     while i < 8 {
         let start = starts[i];
-        let end = start + wide(counts[i]);
+        let end = start + card::wide(counts[i]);
         if !all_of(Kind::Card, &codes[start..end]) {
             return false;
         }
@@ -77,7 +75,7 @@ fn spare_is_zero<'a>(counts: &'a [u8; 8], tableau: &'a [u8]) -> bool
     let mut i = 0;
     while i < 8 {
         let first = i * 52;
-        let start = first + wide(counts[i]);
+        let start = first + card::wide(counts[i]);
         let end = first + 52;
         if !all_of(Kind::AtMost(0), &tableau[start..end]) {
             return false;

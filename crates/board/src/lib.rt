@@ -1,15 +1,9 @@
 // The board record and what a card player sees on it (after freecell/board.rs, first half).
 ghost use mathlib.Core.Path.{_≡_};
-ghost use Rattle.board.specs.Record.{examined, blank};
+ghost use Rattle.board.specs.Record.{examined};
 ghost use Rattle.board.specs.Refusal.{numberOf, examinedTold};
-
-use card::Card;
-
-pub mod ask;
-pub mod deal;
-pub mod image;
 pub mod judge;
-mod mask;
+pub mod mask;
 
 // Four cells (a card's code, or 255), four foundation counts, eight column counts, and eight columns of room for 52
 // codes each, the deepest first; unused room is zero.
@@ -37,34 +31,6 @@ pub enum Examined {
     Refused(Refusal),
 }
 
-// A board beside what was said of it; after a refusal the board is all zero.
-pub struct Reading {
-    pub said: Examined,
-    pub board: Board,
-}
-
-// The top of a column, or what a cell shows: the Rust's `Option<Card>`.
-pub enum Top {
-    Is(Card),
-    Empty,
-}
-
-pub enum TopAnswer {
-    Shows(Top),
-    Refused(Refusal),
-}
-
-pub enum CountAnswer {
-    Count(usize),
-    Refused(Refusal),
-}
-
-pub enum WonAnswer {
-    Won,
-    NotWon,
-    Refused(Refusal),
-}
-
 // What is asked of each byte of a list.
 pub enum Kind {
     Card,
@@ -78,34 +44,11 @@ pub enum Seen {
     Twice,
 }
 
-// A byte as an index.
-fn wide(x: u8) -> usize
-    ensures { λ r. ⌜ r ≡ x ⌝ }
-{
-    x as usize
-}
-
 // The first of 12, 13, 14, 15 that holds of a record, or that it is well formed.
 pub fn examine(b: Board) -> Examined
     ensures { λ r. ⌜ examinedTold r ≡ examined b ⌝ }
 {
     judge::inspect(&b.cells, &b.foundation, &b.counts, &b.tableau)
-}
-
-// A refusal, with no board: the record beside it is all zero.
-fn no_board(why: Refusal) -> Reading
-    ensures { λ r. ⌜ r ≡ record { said = Examined.Refused why; board = blank } ⌝ }
-{
-    let board = Board {
-        cells: [0; 4],
-        foundation: [0; 4],
-        counts: [0; 8],
-        tableau: [0; 416],
-    };
-    Reading {
-        said: Examined::Refused(why),
-        board,
-    }
 }
 
 // Document 01's number of a refusal.

@@ -9,9 +9,7 @@ ghost use Rattle.card.specs.Card.{isCard};
 ghost use Rattle.board.specs.Table.{pile, piles, held};
 ghost use Rattle.board.specs.Judged.{isCell};
 ghost use Rattle.board.specs.Inner.{Marks, GoodCells, GoodPiles, Parts, partAt};
-
 use crate::Seen;
-use crate::wide;
 
 // One more card.
 fn mark(seen: u64, code: u8) -> Seen
@@ -118,7 +116,12 @@ pub fn mark_piles(seen: u64, foundation: &[u8; 4]) -> Seen
 }
 
 // The cards of the eight columns.
-pub fn mark_columns<'a>(seen: u64, starts: &'a [usize; 8], counts: &'a [u8; 8], codes: &'a [u8]) -> Seen
+pub fn mark_columns<'a>(
+    seen: u64,
+    starts: &'a [usize; 8],
+    counts: &'a [u8; 8],
+    codes: &'a [u8],
+) -> Seen
     requires { ⌜ seen < 2 ^ 52 ⌝ }
     requires { ⌜ Parts (now starts) (now counts) (now codes) ⌝ }
     requires { ⌜ all isCard (concat (listed 8 (partAt (now starts) (now counts) (now codes)))) ≡ true ⌝ }
@@ -128,7 +131,7 @@ pub fn mark_columns<'a>(seen: u64, starts: &'a [usize; 8], counts: &'a [u8; 8], 
     let mut i = 0;
     while i < 8 {
         let start = starts[i];
-        let end = start + wide(counts[i]);
+        let end = start + card::wide(counts[i]);
         let Seen::Cards(more) = mark_all(cards, &codes[start..end]) else {
             return Seen::Twice;
         };

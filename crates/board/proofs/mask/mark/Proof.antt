@@ -56,7 +56,7 @@ add-t7 : tie.Need-add-t7
 add-t7 c =
     record {
       fits = sum-below (c .before .before .args .seen) (c .before .before .args .code) (c .before .place-of .result) (c .before .before .pre .1)
-        (c .before .place-of .ensures) (c .before .before .pre .0)
+          (c .before .place-of .ensures) (c .before .before .pre .0);
     }
 
 returns-2 : tie.Need-returns-2

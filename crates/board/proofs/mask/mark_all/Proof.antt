@@ -33,9 +33,10 @@ shared-slice-read-mark : tie.Need-shared-slice-read-mark Inv-loop μ-loop
 shared-slice-read-mark c = search needs
 
 mark-requires : tie.Need-mark-requires Inv-loop μ-loop
-mark-requires c κs =
-    (c .before .before .loop .inv .marks .below,
-     all-at isCard (c .before .before .before .before .args .s .now) (c .before .before .before .before .pre .1) (c .before .before .loop .i) (c .before .loop-test .taken))
+mark-requires c κs = (
+  c .before .before .loop .inv .marks .below,
+  all-at isCard (c .before .before .before .before .args .s .now) (c .before .before .before .before .pre .1) (c .before .before .loop .i) (c .before .loop-test .taken),
+)
 
 enum-known-more : tie.Need-enum-known-more Inv-loop μ-loop
 enum-known-more c = search needs

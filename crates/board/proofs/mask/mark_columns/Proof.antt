@@ -58,10 +58,11 @@ part-mark-all-end c =
 
 mark-all-requires : tie.Need-mark-all-requires Inv-loop μ-loop
 mark-all-requires c κs =
-    let a = c .before .before .before .before .before .before .before .args in
-    (c .before .before .before .before .before .loop .inv .marks .below,
-     subst (λ (l : List ℕ). all isCard l ≡ true) (sym (part-is (a .starts .now) (a .counts .now) (a .codes .now) (c .before .before .before .before .before .loop .i) (c .before .wide .result) (c .before .wide .ensures)))
-     (part-cards (partAt (a .starts .now) (a .counts .now) (a .codes .now)) (c .before .before .before .before .before .loop .i) (c .before .before .before .before .loop-test .taken) (c .before .before .before .before .before .before .before .pre .1 .1)))
+    let a = c .before .before .before .before .before .before .before .args in (
+      c .before .before .before .before .before .loop .inv .marks .below,
+      subst (λ (l : List ℕ). all isCard l ≡ true) (sym (part-is (a .starts .now) (a .counts .now) (a .codes .now) (c .before .before .before .before .before .loop .i) (c .before .wide .result) (c .before .wide .ensures)))
+          (part-cards (partAt (a .starts .now) (a .counts .now) (a .codes .now)) (c .before .before .before .before .before .loop .i) (c .before .before .before .before .loop-test .taken) (c .before .before .before .before .before .before .before .pre .1 .1)),
+    )
 
 enum-known-more : tie.Need-enum-known-more Inv-loop μ-loop
 enum-known-more c = search needs

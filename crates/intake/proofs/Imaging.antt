@@ -1,0 +1,135 @@
+-- Reading an image case by case, and the record that an accepted one fills.
+use mathlib.Core.Path.{_≡_, refl, sym, ap, _∙_, subst}
+use mathlib.Core.Bool.{Bool, true, false, _&&_}
+use mathlib.Core.List.{List, [], _∷_}
+use Prim.Native.Nat.{ℕ, zero, suc, _+_, _-_, _*_, _/_, _%_, _<_, _≤_}
+use native.Mathlib.Omega.{arith}
+use borrow.Author.Tests.{le-leb, lt-leb, eq-eqb, ne-eqb}
+use lib.Dec.{leb, eqb}
+use lib.ListN.{length, getD, take, drop, length-drop, length-take}
+use lib.Seq.{drop-drop, ext-getD}
+use Rattle.card.specs.Words.{all, listed}
+use Rattle.card.specs.Answer.{Answer, given, refused, unless}
+use Rattle.card.proofs.Words.{listed-same, length-listed, getD-listed, first-fails, second-fails, both}
+use Rattle.board.specs.Table.{Table}
+use Rattle.board.specs.Judged.{Verdict, fine, after, judged}
+use Rattle.board.specs.Record.{room, atMost, boardOf}
+use Rattle.intake.specs.Handed.{blank}
+use Rattle.board.specs.Refusal.{numberOf, examinedTold}
+use Rattle.intake.specs.Handed.{readingTold, beside}
+use Rattle.intake.specs.Image.{framed, versioned, columnsIn, judgedWith, bodied, imageRead}
+use Rattle.board.specs.Inner.{partAt, Parts}
+use Rattle.intake.specs.Handed.{Hands}
+use Rattle.intake.specs.Inside.{partCode}
+use Rattle.board.specs.declared.Board.{Board}
+use Rattle.intake.specs.declared.Reading.{Reading}
+use Rattle.board.specs.declared.Refusal.{Refusal}
+use Rattle.board.specs.declared.Examined.{Examined}
+use Rattle.board.specs.declared.Examined.the-variants.{WellFormed, Refused}
+
+-- ---- what is handed over
+
+pub hands-no : {a : Answer Board} {r : Reading} {why : Refusal} → r ≡ record { said = Refused why; board = blank } → a ≡ refused (numberOf why) → Hands a r
+hands-no e q = record { told = ap readingTold e ∙ sym q; board = ap (λ (x : Reading). x .board) e ∙ ap beside (sym q) }
+
+pub hands-yes : {a : Answer Board} {b : Board} → a ≡ given b → Hands a (record { said = WellFormed; board = b })
+hands-yes q = record { told = sym q; board = ap beside (sym q) }
+
+-- ---- the record of parts
+
+part-length : (starts counts codes : List ℕ) → Parts starts counts codes → (i : ℕ) → i < 8 → length (partAt starts counts codes i) ≡ getD counts i 0
+unfolding partAt
+part-length starts counts codes p i h =
+    let w = p .within i h in
+    length-take (getD counts i 0) (drop (getD starts i 0) codes) ∙ (let l = length-drop (getD starts i 0) codes in omega arith)
+
+pub board-of-parts : (cells foundation starts counts codes : List ℕ) → Parts starts counts codes
+    → boardOf (record { cells = cells; foundation = foundation; columns = listed 8 (partAt starts counts codes) })
+    ≡ record { cells = cells; foundation = foundation; counts = counts; tableau = listed 416 (partCode starts counts codes) }
+unfolding boardOf
+board-of-parts cells foundation starts counts codes p =
+    ap (λ (c : List ℕ). record { cells = cells; foundation = foundation; counts = c; tableau = listed 416 inColumns }) same-counts
+    ∙ ap (λ (t : List ℕ). record { cells = cells; foundation = foundation; counts = counts; tableau = t }) same-codes
+  where
+    part : ℕ → List ℕ
+    part = partAt starts counts codes
+
+    inColumns : ℕ → ℕ
+    inColumns k = getD (getD (listed 8 part) (k / room) []) (k % room) 0
+
+    same-codes : listed 416 inColumns ≡ listed 416 (partCode starts counts codes)
+    same-codes =
+        listed-same inColumns (partCode starts counts codes) 416
+        (λ k h. ap (λ (l : List ℕ). getD l (k % room) 0) (getD-listed part 8 (k / room) [] (omega arith)))
+
+    same-counts : listed 8 (λ i. length (getD (listed 8 part) i [])) ≡ counts
+    same-counts =
+        ext-getD 0 (listed 8 (λ i. length (getD (listed 8 part) i []))) counts
+        (length-listed (λ i. length (getD (listed 8 part) i [])) 8 ∙ sym (p .counts8))
+        (λ k h. let b : k < 8 = (let l = length-listed (λ i. length (getD (listed 8 part) i [])) 8 in omega arith) in
+        getD-listed (λ i. length (getD (listed 8 part) i [])) 8 k 0 b
+        ∙ ap length (getD-listed part 8 k [] b) ∙ part-length starts counts codes p k b)
+
+-- ---- the body
+
+module _ (image : List ℕ) where
+  pub body-short : length image < 11 → bodied (drop 3 image) ≡ refused 12
+  unfolding bodied
+  body-short h = rw (lt-leb 8 (length (drop 3 image)) (let l = length-drop 3 image in omega arith))
+
+  module _ (long : 11 ≤ length image) where
+    body-long : leb 8 (length (drop 3 image)) ≡ true
+    body-long = le-leb 8 (length (drop 3 image)) (let l = length-drop 3 image in omega arith)
+
+    pub body-piles : {foundation : List ℕ} → foundation ≡ take 4 (drop 7 image) → all (atMost 13) foundation ≡ false → bodied (drop 3 image) ≡ refused 12
+    unfolding bodied
+    body-piles f e = rw (body-long, drop-drop 4 3 image, ← f, e)
+
+    pub body-columns : {cells foundation : List ℕ} {r : Answer (List (List ℕ))}
+        → cells ≡ take 4 (drop 3 image) → foundation ≡ take 4 (drop 7 image) → all (atMost 13) foundation ≡ true → columnsIn 8 (drop 11 image) ≡ r
+        → bodied (drop 3 image) ≡ judgedWith cells foundation r
+    unfolding bodied
+    body-columns c f e q = rw (body-long, drop-drop 4 3 image, drop-drop 8 3 image, ← c, ← f, e, q)
+
+pub columns-refused : (cells foundation : List ℕ) → judgedWith cells foundation (refused 12) ≡ refused 12
+unfolding judgedWith
+columns-refused cells foundation = refl
+
+module _ (cells foundation : List ℕ) (columns : List (List ℕ)) {r : Examined}
+    (e : examinedTold r ≡ judged (record { cells = cells; foundation = foundation; columns = columns })) where
+  pub columns-bad : {why : Refusal} → r ≡ Refused why → judgedWith cells foundation (given columns) ≡ refused (numberOf why)
+  unfolding judgedWith
+  columns-bad q = rw (← e, q)
+
+  pub columns-good : r ≡ WellFormed
+      → judgedWith cells foundation (given columns) ≡ given (boardOf (record { cells = cells; foundation = foundation; columns = columns }))
+  unfolding judgedWith
+  columns-good q = rw (← e, q)
+
+-- ---- the length and the version
+
+module _ (image : List ℕ) where
+  pub too-short : length image < 2 → imageRead image ≡ refused 10
+  unfolding imageRead framed
+  too-short h = rw (lt-leb 2 (length image) h)
+
+  pub wrong-count : (getD image 0 0 * 256 + getD image 1 0 ≡ length image - 2 → ⊥) → imageRead image ≡ refused 10
+  unfolding imageRead framed
+  wrong-count d = rw (second-fails (leb 2 (length image)) _ (ne-eqb (getD image 0 0 * 256 + getD image 1 0) (length image - 2) d))
+
+  module _ (two : 2 ≤ length image) (count : getD image 0 0 * 256 + getD image 1 0 ≡ length image - 2) where
+    frame : framed image ≡ true
+    unfolding framed
+    frame = both (le-leb 2 (length image) two) (eq-eqb _ _ count)
+
+    pub no-version : length image < 3 → imageRead image ≡ refused 11
+    unfolding imageRead versioned
+    no-version h = rw (frame, lt-leb 3 (length image) h)
+
+    pub wrong-version : (getD image 2 0 ≡ 1 → ⊥) → imageRead image ≡ refused 11
+    unfolding imageRead versioned
+    wrong-version d = rw (frame, second-fails (leb 3 (length image)) _ (ne-eqb (getD image 2 0) 1 d))
+
+    pub to-the-body : 3 ≤ length image → getD image 2 0 ≡ 1 → imageRead image ≡ bodied (drop 3 image)
+    unfolding imageRead versioned
+    to-the-body h e = rw (frame, le-leb 3 (length image) h, eq-eqb (getD image 2 0) 1 e)

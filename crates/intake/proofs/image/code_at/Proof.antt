@@ -1,0 +1,49 @@
+-- What `code_at` leaves to be shown: a row within the part, or past it.
+use mathlib.Core.Path.{sym}
+use Prim.Native.Nat.{_/_, _%_}
+use native.Mathlib.Omega.{arith}
+use Rattle.intake.proofs.Filling.{part-code, part-past}
+use borrow.Author.Needs.{needs}
+use Rattle.intake.proofs.image.code_at.Statement.{statement}
+use Rattle.intake.proofs.image.code_at.Tie as tie
+
+element-copy-out-wide : tie.Need-element-copy-out-wide
+element-copy-out-wide c = omega (arith, c .before .pre .0 .counts8)
+
+wide-requires : tie.Need-wide-requires
+wide-requires c κs = search needs
+
+mul-start : tie.Need-mul-start
+mul-start c = search needs
+
+element-copy-out-start : tie.Need-element-copy-out-start
+element-copy-out-start c = omega (arith, c .before .before .before .before .pre .0 .starts8)
+
+add-at : tie.Need-add-at
+add-at c =
+    omega (arith, c .before .before .wide .ensures, c .before .before .before .before .before .pre .0 .within (c .before .before .before .before .before .args .p / 52) (omega arith), c .before .before .before .before .before .good)
+
+shared-slice-read-result : tie.Need-shared-slice-read-result
+shared-slice-read-result c =
+    omega (arith, c .before .before .before .wide .ensures, c .before .before .before .before .before .before .pre .0 .within (c .before .before .before .before .before .before .args .p / 52) (omega arith))
+
+returns : tie.Need-returns
+returns c =
+    sym (part-code (c .before .before .before .before .before .before .args .starts .now) (c .before .before .before .before .before .before .args .counts .now) (c .before .before .before .before .before .before .args .codes .now) (c .before .before .before .before .before .before .args .p / 52) (c .before .before .before .before .before .before .args .p % 52) (omega (arith, c .before .before .before .wide .ensures)))
+
+returns-2 : tie.Need-returns-2
+returns-2 c =
+    sym (part-past (c .before .before .before .before .args .starts .now) (c .before .before .before .before .args .counts .now) (c .before .before .before .before .args .codes .now) (c .before .before .before .before .args .p / 52) (c .before .before .before .before .args .p % 52) (omega (arith, c .before .wide .ensures)))
+
+pub code-at-spec : {M : Type 1} → statement M
+code-at-spec =
+    tie.close
+    (tie.spec
+    element-copy-out-wide
+    wide-requires
+    mul-start
+    element-copy-out-start
+    add-at
+    shared-slice-read-result
+    returns
+    returns-2)

@@ -1,0 +1,5 @@
+-- Read these in this order.
+pub mod Handed
+pub mod Image
+pub mod Deal
+pub mod Inside

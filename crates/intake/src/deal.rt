@@ -1,0 +1,70 @@
+// Dealing a deck of 52.
+ghost use mathlib.Core.Path.{_≡_};
+ghost use Prim.Native.Nat.{_<_};
+ghost use lib.ListN.{length};
+ghost use Rattle.card.specs.Words.{listed};
+ghost use Rattle.intake.specs.Deal.{dealAsked};
+ghost use Rattle.intake.specs.Handed.{Hands};
+ghost use Rattle.intake.specs.Inside.{deckCode};
+use board::Board;
+use board::Examined;
+use board::Kind;
+use crate::Reading;
+use board::Refusal;
+use board::Seen;
+use board::judge;
+use board::mask;
+use crate::no_board;
+
+// The code at one place of the flat array: deck place row * 8 + column, if there is one.
+fn dealt_code(deck: &[u8], p: usize) -> u8
+    requires { ⌜ p < 416 ⌝ }
+    ensures { λ r. ⌜ r ≡ deckCode (now (deck .entry)) p ⌝ }
+{
+    let row = p % 52;
+    let before = row * 8;
+    let at = before + p / 52;
+    if at < deck.len() {
+        return deck[at];
+    }
+    0
+}
+
+// The flat array of the eight columns.
+fn lay_out(deck: &[u8]) -> [u8; 416]
+    ensures { λ r. ⌜ r ≡ listed 416 (deckCode (now (deck .entry))) ⌝ }
+{
+    let mut tableau = [0u8; 416];
+    let mut p = 0;
+    while p < 416 {
+        tableau[p] = dealt_code(deck, p);
+        p += 1;
+    }
+    tableau
+}
+
+// 16, 13, 14, or the board: place i goes to column i mod 8, row i div 8.
+pub fn deal(deck: &[u8]) -> Reading
+    ensures { λ r. ⌜ Hands (dealAsked (now (deck .entry))) r ⌝ }
+{
+    if deck.len() != 52 {
+        return no_board(Refusal::NoDeck);
+    }
+    if !judge::all_of(Kind::Card, deck) {
+        return no_board(Refusal::NoCard);
+    }
+    let Seen::Cards(_) = mask::mark_all(0, deck) else {
+        return no_board(Refusal::CardTwice);
+    };
+    let tableau = lay_out(deck);
+    let board = Board {
+        cells: [255; 4],
+        foundation: [0; 4],
+        counts: [7, 7, 7, 7, 6, 6, 6, 6],
+        tableau,
+    };
+    Reading {
+        said: Examined::WellFormed,
+        board,
+    }
+}

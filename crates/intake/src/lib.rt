@@ -1,0 +1,33 @@
+// Boards from outside: reading an image, dealing a deck.
+ghost use mathlib.Core.Path.{_≡_};
+ghost use Rattle.board.specs.declared.Examined.the-variants.{Refused};
+ghost use Rattle.intake.specs.Handed.{blank};
+
+use board::Board;
+use board::Examined;
+use board::Refusal;
+
+pub mod deal;
+pub mod image;
+
+// A board beside what was said of it; after a refusal the board is all zero.
+pub struct Reading {
+    pub said: Examined,
+    pub board: Board,
+}
+
+// A refusal, with no board: the record beside it is all zero.
+fn no_board(why: Refusal) -> Reading
+    ensures { λ r. ⌜ r ≡ record { said = Refused why; board = blank } ⌝ }
+{
+    let board = Board {
+        cells: [0; 4],
+        foundation: [0; 4],
+        counts: [0; 8],
+        tableau: [0; 416],
+    };
+    Reading {
+        said: Examined::Refused(why),
+        board,
+    }
+}

@@ -1,0 +1,55 @@
+-- What `top_at` leaves to be shown: the last card of the column, if it has one.
+use mathlib.Core.Path.{ap, _∙_}
+use Prim.Native.Nat.{_-_}
+use native.Mathlib.Omega.{arith}
+use Rattle.questions.specs.declared.Top.the-variants.{Is}
+use Rattle.questions.proofs.Asking.{no-top, a-top}
+use borrow.Author.Needs.{needs}
+use Rattle.questions.proofs.top_at.Statement.{statement}
+use Rattle.questions.proofs.top_at.Tie as tie
+
+element-copy-out-wide : tie.Need-element-copy-out-wide
+element-copy-out-wide c = omega (arith, c .pre .0 .eight)
+
+wide-requires : tie.Need-wide-requires
+wide-requires c κs = search needs
+
+returns : tie.Need-returns
+returns c =
+    no-top (c .before .before .before .pre .0) (c .before .before .before .args .i) (c .before .wide .result) (c .before .before .before .pre .1) (c .before .wide .ensures) (c .if1 .taken)
+
+mul-first : tie.Need-mul-first
+mul-first c = search needs
+
+sub-last : tie.Need-sub-last
+sub-last c = search needs
+
+add-last : tie.Need-add-last
+add-last c =
+    omega (arith, c .before .wide .ensures, c .before .before .before .pre .0 .within (c .before .before .before .args .i) (c .before .before .before .pre .1))
+
+element-copy-out-card-of : tie.Need-element-copy-out-card-of
+element-copy-out-card-of c =
+    omega (arith, c .before .wide .ensures, c .before .before .before .pre .0 .within (c .before .before .before .args .i) (c .before .before .before .pre .1), c .before .before .before .pre .0 .full, c .if1 .left)
+
+card-of-requires : tie.Need-card-of-requires
+card-of-requires c κs =
+    c .before .before .before .before .pre .0 .codes (c .before .before .before .before .args .i) (c .before .before .wide .result - 1) (c .before .before .before .before .pre .1) (omega (arith, c .before .before .wide .ensures, c .before .if1 .left))
+
+returns-2 : tie.Need-returns-2
+returns-2 c =
+    ap Is (c .card-of .ensures) ∙ a-top (c .before .before .before .before .before .pre .0) (c .before .before .before .before .before .args .i) (c .before .before .before .wide .result) (c .before .before .before .before .before .pre .1) (c .before .before .before .wide .ensures) (c .before .before .if1 .left)
+
+pub top-at-spec : {M : Type 1} → statement M
+top-at-spec =
+    tie.close
+    (tie.spec
+    element-copy-out-wide
+    wide-requires
+    returns
+    mul-first
+    sub-last
+    add-last
+    element-copy-out-card-of
+    card-of-requires
+    returns-2)
