@@ -3,3 +3,7 @@ pub mod Marks
 pub mod Tables
 pub mod Judging
 pub mod Soundness
+pub mod Counting
+pub mod Records
+pub mod Fitting
+pub mod Unique

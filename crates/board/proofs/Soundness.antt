@@ -4,8 +4,8 @@ use mathlib.Core.Bool.{Bool, true, false, _&&_}
 use mathlib.Core.List.{List, []}
 use Prim.Native.Nat.{ℕ, zero, suc, _+_, _-_, _*_, _<_, _≤_}
 use native.Mathlib.Omega.{arith}
-use borrow.Author.Tests.{leb-true, le-leb}
-use lib.Dec.{leb}
+use borrow.Author.Tests.{le-leb, eq-eqb, eqb-true}
+use lib.Dec.{eqb}
 use lib.ListN.{length, getD, take, drop, length-take, length-drop}
 use lib.Seq.{getD-take, getD-drop}
 use Rattle.card.specs.Words.{every, all, occurs, listed, concat}
@@ -23,7 +23,7 @@ use Rattle.board.proofs.Tables.{at-most, good-cells, good-piles}
 
 -- ---- a verdict that is fine passed every test
 
-passed : (ok : Bool) (n : ℕ) (v : Verdict) → unless ok n v ≡ fine → (ok ≡ true) × (v ≡ fine)
+pub passed : (ok : Bool) (n : ℕ) (v : Verdict) → unless ok n v ≡ fine → (ok ≡ true) × (v ≡ fine)
 passed true n v e = (refl, e)
 passed false n v e = let z : _≡_ {A = ℕ} 0 1 = cc in absurd (let w : ⊥ = omega arith in w)
 
@@ -97,3 +97,81 @@ module _ (b : Board) (z : Sized b) where
         inColumns = good-columns (s .0) (second (all isCell (b .cells)) _ (o .0));
         once = λ k h. let a = none-twice-at (cardsOn (shown b)) (t .0) k h in let c = none-missing-at (cardsOn (shown b)) (m .0) k h in omega arith;
       }
+
+-- ---- and from the places to the tests
+
+pub shape-of : (b : Board) → GoodPiles (b .foundation) → length (b .counts) ≡ 8 → length (b .tableau) ≡ 8 * room
+    → ((i : ℕ) → i < 8 → getD (b .counts) i 0 ≤ room)
+    → ((i j : ℕ) → i < 8 → getD (b .counts) i 0 ≤ j → j < room → getD (b .tableau) (i * room + j) 0 ≡ 0)
+    → shapely b ≡ true
+unfolding shapely
+shape-of b piles eight full within spare =
+    both
+    (all-by (atMost room) (b .counts) (λ i h. le-leb (getD (b .counts) i 0) room (within i (omega arith))))
+    (both
+    (all-by (atMost 13) (b .foundation)
+    (λ i h. le-leb (getD (b .foundation) i 0) 13 (piles .within i (let l = piles .four in omega arith))))
+    (every-by (λ i. all isZero (spareAt (b .counts) (b .tableau) i)) 8
+    (λ i h. all-by isZero (spareAt (b .counts) (b .tableau) i)
+    (λ k l.
+    let w = within i h in
+    let n = spare-long (b .counts) (b .tableau) i full h w in
+    le-leb (getD (spareAt (b .counts) (b .tableau) i) k 0) 0
+    (let e = spare-code (b .counts) (b .tableau) i k (omega arith) in
+    let z = spare i (getD (b .counts) i 0 + k) h (omega arith) (omega arith) in
+    omega arith)))))
+
+module _ {b : Board} (s : Sound b) where
+  good-shape-of : shapely b ≡ true
+  good-shape-of =
+      let c = s .inColumns in
+      shape-of b (s .inPiles) (c .eight) (c .full) (c .within) (c .spare)
+
+  good-codes-of : onlyCards (shown b) ≡ true
+  unfolding onlyCards shown
+  good-codes-of =
+      both
+      (all-by isCell (b .cells) (λ i h. s .inCells .codes i (let l = s .inCells .four in omega arith)))
+      (all-concat isCard (columnAt (b .counts) (b .tableau)) 8
+      ∙ every-by (λ i. all isCard (columnAt (b .counts) (b .tableau) i)) 8
+      (λ i h. all-by isCard (columnAt (b .counts) (b .tableau) i)
+      (λ j l.
+      let n = column-length (s .inColumns) i h in
+      let m : j < getD (b .counts) i 0 = omega arith in
+      subst (λ (x : ℕ). isCard x ≡ true) (sym (column-code (b .counts) (b .tableau) i j m)) (s .inColumns .codes i j h m))))
+
+  pub sound-fine : examined b ≡ fine
+  unfolding examined judged
+  sound-fine =
+      rw (
+        good-shape-of,
+        good-codes-of,
+        none-twice (cardsOn (shown b)) (λ k h. let o = s .once k h in omega arith),
+        none-missing (cardsOn (shown b)) (λ k h. let o = s .once k h in omega arith),
+      )
+
+  pub sound-sized : Sized b
+  sound-sized = record { four = s .inCells .four; piles = s .inPiles .four; eight = s .inColumns .eight; full = s .inColumns .full }
+
+-- ---- well-formed in one breath: nothing but cards, each of the 52 exactly once
+
+pub fair : (t : Table) → wellFormed t ≡ true → judged t ≡ fine
+unfolding judged wellFormed
+fair t e =
+    let each = every-at (λ k. eqb (occurs (cardAt k) (cardsOn t)) 1) 52 (second (onlyCards t) _ e) in
+    rw (
+      first (onlyCards t) _ e,
+      none-twice (cardsOn t) (λ k h. let o = eqb-true (occurs (cardAt k) (cardsOn t)) 1 (each k h) in omega arith),
+      none-missing (cardsOn t) (λ k h. let o = eqb-true (occurs (cardAt k) (cardsOn t)) 1 (each k h) in omega arith),
+    )
+
+pub fine-fair : (t : Table) → judged t ≡ fine → wellFormed t ≡ true
+unfolding judged wellFormed
+fine-fair t e =
+    let o = passed (onlyCards t) 13 _ e in
+    let w = passed (noneTwice (cardsOn t)) 14 _ (o .1) in
+    let m = passed (noneMissing (cardsOn t)) 15 _ (w .1) in
+    both (o .0)
+    (every-by (λ k. eqb (occurs (cardAt k) (cardsOn t)) 1) 52
+    (λ k h. eq-eqb (occurs (cardAt k) (cardsOn t)) 1
+    (let a = none-twice-at (cardsOn t) (w .0) k h in let c = none-missing-at (cardsOn t) (m .0) k h in omega arith)))

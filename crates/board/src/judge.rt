@@ -6,7 +6,7 @@ ghost use Prim.Native.Nat.{_*_};
 ghost use Rattle.card.specs.Words.{every, all, concat, listed};
 ghost use Rattle.card.specs.Card.{isCard};
 ghost use Rattle.board.specs.Table.{cardsOn};
-ghost use Rattle.board.specs.Judged.{isCell, judged};
+ghost use Rattle.board.specs.Judged.{isCell, noneTwice, judged};
 ghost use Rattle.board.specs.Record.{room, atMost, isZero, spareAt, examined};
 ghost use Rattle.board.specs.Refusal.{examinedTold};
 ghost use Rattle.board.specs.Inner.{isKind, Marks, GoodCells, GoodPiles, Parts, partAt, Sized};
@@ -46,6 +46,17 @@ pub fn all_of(kind: Kind, s: &[u8]) -> bool
         i += 1;
     }
     true
+}
+
+// No card comes twice in a list of cards.
+pub fn none_twice(s: &[u8]) -> bool
+    requires { ⌜ all isCard (now s) ≡ true ⌝ }
+    ensures { λ r. ⌜ r ≡ noneTwice (now (s .entry)) ⌝ }
+{
+    match mask::mark_all(0, s) {
+        Seen::Cards(_) => true,
+        Seen::Twice => false,
+    }
 }
 
 // Every code of the eight columns is a card's.

@@ -2,8 +2,9 @@
 ghost use mathlib.Core.Path.{_≡_};
 ghost use Rattle.board.specs.Record.{examined};
 ghost use Rattle.board.specs.Refusal.{numberOf, examinedTold};
+
 pub mod judge;
-pub mod mask;
+mod mask;
 
 // Four cells (a card's code, or 255), four foundation counts, eight column counts, and eight columns of room for 52
 // codes each, the deepest first; unused room is zero.
@@ -39,7 +40,7 @@ pub enum Kind {
 }
 
 // The cards seen so far, a bit a card, or that one came twice.
-pub enum Seen {
+enum Seen {
     Cards(u64),
     Twice,
 }

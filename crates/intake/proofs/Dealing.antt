@@ -14,12 +14,8 @@ use Rattle.card.proofs.Words.{listed-same, length-listed, getD-listed}
 use Rattle.board.specs.Judged.{noneTwice}
 use Rattle.board.specs.Record.{room, boardOf}
 use Rattle.intake.specs.Deal.{rows, dealtColumn, dealt, dealAsked}
-use Rattle.board.specs.Inner.{Marks}
 use Rattle.intake.specs.Inside.{deckCode}
 use Rattle.board.specs.declared.Board.{Board}
-use Rattle.board.specs.declared.Seen.{Seen}
-use Rattle.board.specs.declared.Seen.the-variants.{Cards, Twice}
-use Rattle.board.proofs.Marks.{marks-as, holds-none, holds-once}
 
 module _ (deck : List ℕ) where
   pub no-deck : (length deck ≡ 52 → ⊥) → dealAsked deck ≡ refused 16
@@ -31,14 +27,14 @@ module _ (deck : List ℕ) where
     unfolding dealAsked
     deck-code e = rw (eq-eqb (length deck) 52 full, e)
 
-    module _ (cards : all isCard deck ≡ true) {r : Seen} (m : Marks 0 deck r) where
-      pub deck-twice : r ≡ Twice → dealAsked deck ≡ refused 14
+    module _ (cards : all isCard deck ≡ true) where
+      pub deck-twice : noneTwice deck ≡ false → dealAsked deck ≡ refused 14
       unfolding dealAsked
-      deck-twice e = rw (eq-eqb (length deck) 52 full, cards, marks-as m e .knows [] holds-none)
+      deck-twice e = rw (eq-eqb (length deck) 52 full, cards, e)
 
-      pub deck-dealt : {seen : ℕ} → r ≡ Cards seen → dealAsked deck ≡ given (boardOf (dealt deck))
+      pub deck-dealt : noneTwice deck ≡ true → dealAsked deck ≡ given (boardOf (dealt deck))
       unfolding dealAsked
-      deck-dealt e = rw (eq-eqb (length deck) 52 full, cards, holds-once (marks-as m e .knows [] holds-none))
+      deck-dealt e = rw (eq-eqb (length deck) 52 full, cards, e)
 
 -- ---- a row lies within its column exactly if its place lies within the deck
 

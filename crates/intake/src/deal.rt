@@ -6,15 +6,13 @@ ghost use Rattle.card.specs.Words.{listed};
 ghost use Rattle.intake.specs.Deal.{dealAsked};
 ghost use Rattle.intake.specs.Handed.{Hands};
 ghost use Rattle.intake.specs.Inside.{deckCode};
+use crate::Reading;
+use crate::no_board;
 use board::Board;
 use board::Examined;
 use board::Kind;
-use crate::Reading;
 use board::Refusal;
-use board::Seen;
 use board::judge;
-use board::mask;
-use crate::no_board;
 
 // The code at one place of the flat array: deck place row * 8 + column, if there is one.
 fn dealt_code(deck: &[u8], p: usize) -> u8
@@ -53,9 +51,9 @@ pub fn deal(deck: &[u8]) -> Reading
     if !judge::all_of(Kind::Card, deck) {
         return no_board(Refusal::NoCard);
     }
-    let Seen::Cards(_) = mask::mark_all(0, deck) else {
+    if !judge::none_twice(deck) {
         return no_board(Refusal::CardTwice);
-    };
+    }
     let tableau = lay_out(deck);
     let board = Board {
         cells: [255; 4],

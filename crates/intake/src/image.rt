@@ -8,13 +8,13 @@ ghost use Rattle.intake.specs.Image.{imageRead, bodied};
 ghost use Rattle.board.specs.Inner.{Parts};
 ghost use Rattle.intake.specs.Handed.{Hands};
 ghost use Rattle.intake.specs.Inside.{Outlined, partCode};
+use crate::Reading;
+use crate::no_board;
 use board::Board;
 use board::Examined;
 use board::Kind;
-use crate::Reading;
 use board::Refusal;
 use board::judge;
-use crate::no_board;
 
 // Where an image's columns lie: the first code of each, and how many; ok if the last ends where the image does.
 struct Outline {

@@ -2,7 +2,6 @@
 ghost use mathlib.Core.Path.{_≡_};
 ghost use Rattle.board.specs.declared.Examined.the-variants.{Refused};
 ghost use Rattle.intake.specs.Handed.{blank};
-
 use board::Board;
 use board::Examined;
 use board::Refusal;

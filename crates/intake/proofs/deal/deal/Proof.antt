@@ -4,9 +4,9 @@ use mathlib.Core.List.{List, [], _∷_}
 use Prim.Native.Nat.{ℕ}
 use lib.ListN.{replicate}
 use borrow.Author.Tests.{not-true, not-false}
-use lib.Dec.{lit<}
 use Rattle.card.specs.Answer.{given}
 use Rattle.board.specs.declared.Board.{Board}
+use Rattle.board.proofs.Marks.{none-twice}
 use Rattle.intake.proofs.Imaging.{hands-no, hands-yes}
 use Rattle.intake.proofs.Dealing.{no-deck, deck-code, deck-twice, deck-dealt, board-dealt}
 use borrow.Author.Needs.{needs}
@@ -29,21 +29,15 @@ returns-2 : tie.Need-returns-2
 returns-2 c =
     hands-no (c .no-board2 .ensures) (deck-code (c .before .before .before .before .before .args .deck .now) (c .before .before .before .if1 .left) (sym (c .before .before .all-of .ensures) ∙ not-true _ (c .before .if2 .taken)))
 
-mark-all-requires : tie.Need-mark-all-requires
-mark-all-requires c κs = (lit< tt, (sym (c .before .all-of .ensures) ∙ not-false _ (c .if2 .left)))
-
-enum-told : tie.Need-enum-told
-enum-told c = search needs
-
-enum-told-2 : tie.Need-enum-told-2
-enum-told-2 c = search needs
+none-twice-requires : tie.Need-none-twice-requires
+none-twice-requires c κs = (sym (c .before .all-of .ensures) ∙ not-false _ (c .if2 .left))
 
 no-board-requires-3 : tie.Need-no-board-requires-3
 no-board-requires-3 c κs = search needs
 
 returns-3 : tie.Need-returns-3
 returns-3 c =
-    hands-no (c .no-board3 .ensures) (deck-twice (c .before .before .before .before .before .before .before .before .args .deck .now) (c .before .before .before .before .before .before .if1 .left) (sym (c .before .before .before .before .before .all-of .ensures) ∙ not-false _ (c .before .before .before .before .if2 .left)) (c .before .before .before .mark-all .ensures) (c .before .enum-told2 .given .1))
+    hands-no (c .no-board3 .ensures) (deck-twice (c .before .before .before .before .before .before .before .args .deck .now) (c .before .before .before .before .before .if1 .left) (sym (c .before .before .before .before .all-of .ensures) ∙ not-false _ (c .before .before .before .if2 .left)) (sym (c .before .before .none-twice .ensures) ∙ not-true _ (c .before .if3 .taken)))
 
 lay-out-requires : tie.Need-lay-out-requires
 lay-out-requires c κs = search needs
@@ -51,8 +45,8 @@ lay-out-requires c κs = search needs
 returns-4 : tie.Need-returns-4
 returns-4 c =
     hands-yes
-    (deck-dealt (c .before .before .before .before .before .before .before .before .args .deck .now) (c .before .before .before .before .before .before .if1 .left) (sym (c .before .before .before .before .before .all-of .ensures) ∙ not-false _ (c .before .before .before .before .if2 .left)) (c .before .before .before .mark-all .ensures) (c .before .enum-told .given .1)
-    ∙ ap (λ (b : Board). given b) (board-dealt (c .before .before .before .before .before .before .before .before .args .deck .now) (c .before .before .before .before .before .before .if1 .left))
+    (deck-dealt (c .before .before .before .before .before .before .before .args .deck .now) (c .before .before .before .before .before .if1 .left) (sym (c .before .before .before .before .all-of .ensures) ∙ not-false _ (c .before .before .before .if2 .left)) (sym (c .before .before .none-twice .ensures) ∙ not-false _ (c .before .if3 .left))
+    ∙ ap (λ (b : Board). given b) (board-dealt (c .before .before .before .before .before .before .before .args .deck .now) (c .before .before .before .before .before .if1 .left))
     ∙ ap (λ (t : List ℕ). given (record { cells = replicate 4 255; foundation = replicate 4 0; counts = 7 ∷ 7 ∷ 7 ∷ 7 ∷ 6 ∷ 6 ∷ 6 ∷ 6 ∷ []; tableau = t })) (sym (c .lay-out .ensures)))
 
 pub deal-spec : {M : Type 1} → statement M
@@ -64,9 +58,7 @@ deal-spec =
     all-of-requires
     no-board-requires-2
     returns-2
-    mark-all-requires
-    enum-told
-    enum-told-2
+    none-twice-requires
     no-board-requires-3
     returns-3
     lay-out-requires

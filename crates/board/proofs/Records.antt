@@ -1,0 +1,130 @@
+-- A record of good shape and the table that it shows determine each other.
+use mathlib.Core.Path.{_≡_, refl, sym, ap, _∙_}
+use mathlib.Core.Bool.{Bool, true, false}
+use mathlib.Core.List.{List, [], _∷_}
+use Prim.Native.Nat.{ℕ, zero, suc, _+_, _-_, _*_, _/_, _%_, _<_, _≤_}
+use native.Mathlib.Omega.{arith}
+use native.Mathlib.Decide.{decLt}
+use lib.ListN.{length, getD, take, drop, length-take, length-drop, List·getD-eq-default}
+use lib.Seq.{ext-getD, getD-take, getD-drop}
+use Rattle.card.specs.Words.{listed}
+use Rattle.card.proofs.Words.{listed-same, length-listed, getD-listed}
+use Rattle.board.specs.Table.{Table}
+use Rattle.board.specs.Judged.{fine, judged}
+use Rattle.board.specs.Record.{room, columnAt, shown, shapely, examined, boardOf}
+use Rattle.board.specs.Inner.{GoodPiles, GoodColumns, Sized}
+use Rattle.board.specs.declared.Board.{Board}
+use Rattle.board.proofs.Judging.{good-shape}
+use Rattle.board.proofs.Soundness.{column-length, column-code, shape-of}
+
+module _ (b : Board) (g : GoodColumns (b .counts) (b .tableau)) where
+  abbrev column : ℕ → List ℕ
+  column = columnAt (b .counts) (b .tableau)
+
+  same-counts : listed 8 (λ i. length (getD (listed 8 column) i [])) ≡ b .counts
+  same-counts =
+      ext-getD 0 (listed 8 (λ i. length (getD (listed 8 column) i []))) (b .counts)
+      (length-listed (λ i. length (getD (listed 8 column) i [])) 8 ∙ sym (g .eight))
+      (λ k h. let l : k < 8 = (let n = length-listed (λ i. length (getD (listed 8 column) i [])) 8 in omega arith) in
+      getD-listed (λ i. length (getD (listed 8 column) i [])) 8 k 0 l ∙ ap length (getD-listed column 8 k [] l) ∙ column-length g k l)
+
+  -- the code at row j of column i, and 0 past the column's end
+  code-there : (i j : ℕ) → i < 8 → j < room → getD (column i) j 0 ≡ getD (b .tableau) (i * room + j) 0
+  code-there i j h l = by-side (decLt j (getD (b .counts) i 0))
+    where
+      by-side : Dec (j < getD (b .counts) i 0) → getD (column i) j 0 ≡ getD (b .tableau) (i * room + j) 0
+      by-side (yes m) = column-code (b .counts) (b .tableau) i j m
+      by-side (no m) =
+          List·getD-eq-default (column i) 0 (let n = column-length g i h in omega arith) ∙ sym (g .spare i j h (omega arith) l)
+
+  same-codes : listed (8 * room) (λ p. getD (getD (listed 8 column) (p / room) []) (p % room) 0) ≡ b .tableau
+  same-codes =
+      ext-getD 0 (listed (8 * room) code) (b .tableau) (length-listed code (8 * room) ∙ sym (g .full))
+      (λ k h. let l : k < 8 * room = (let n = length-listed code (8 * room) in omega arith) in
+      getD-listed code (8 * room) k 0 l
+      ∙ ap (λ (c : List ℕ). getD c (k % room) 0) (getD-listed column 8 (k / room) [] (omega arith))
+      ∙ code-there (k / room) (k % room) (omega arith) (omega arith)
+      ∙ ap (λ (p : ℕ). getD (b .tableau) p 0) (let q : k / room * room + k % room ≡ k = omega arith in q))
+    where
+      code : ℕ → ℕ
+      code p = getD (getD (listed 8 column) (p / room) []) (p % room) 0
+
+  -- the record of what a record shows is that record
+  pub record-of-shown : boardOf (shown b) ≡ b
+  unfolding boardOf shown
+  record-of-shown =
+      ap (λ (c : List ℕ). record { cells = b .cells; foundation = b .foundation; counts = c; tableau = listed (8 * room) (λ p. getD (getD (listed 8 column) (p / room) []) (p % room) 0) }) same-counts
+      ∙ ap (λ (t : List ℕ). record { cells = b .cells; foundation = b .foundation; counts = b .counts; tableau = t }) same-codes
+
+-- two records whose unused room is zero and that show the same table are the same record
+pub determined : (a b : Board) → GoodColumns (a .counts) (a .tableau) → GoodColumns (b .counts) (b .tableau) → shown a ≡ shown b → a ≡ b
+determined a b g h e = sym (record-of-shown a g) ∙ ap boardOf e ∙ record-of-shown b h
+
+-- ---- a table that fits a record
+
+pub record Laid (t : Table) : Type 0 where
+  pub four : length (t .cells) ≡ 4
+  pub piles : GoodPiles (t .foundation)
+  pub eight : length (t .columns) ≡ 8
+  pub short : (i : ℕ) → i < 8 → length (getD (t .columns) i []) ≤ room
+
+module _ (t : Table) (l : Laid t) where
+  abbrev column-of : ℕ → List ℕ
+  column-of i = getD (t .columns) i []
+
+  abbrev code-of : ℕ → ℕ
+  code-of p = getD (column-of (p / room)) (p % room) 0
+
+  abbrev counts-of : List ℕ
+  counts-of = listed 8 (λ i. length (column-of i))
+
+  abbrev tableau-of : List ℕ
+  tableau-of = listed (8 * room) code-of
+
+  count-at : (i : ℕ) → i < 8 → getD counts-of i 0 ≡ length (column-of i)
+  count-at i h = getD-listed (λ i. length (column-of i)) 8 i 0 h
+
+  code-at : (i j : ℕ) → i < 8 → j < room → getD tableau-of (i * room + j) 0 ≡ getD (column-of i) j 0
+  code-at i j h m =
+      getD-listed code-of (8 * room) (i * room + j) 0 (omega arith)
+      ∙ ap (λ (k : ℕ). getD (column-of k) ((i * room + j) % room) 0) (let q : (i * room + j) / room ≡ i = omega arith in q)
+      ∙ ap (λ (k : ℕ). getD (column-of i) k 0) (let q : (i * room + j) % room ≡ j = omega arith in q)
+
+  column-back : (i : ℕ) → i < 8 → columnAt counts-of tableau-of i ≡ column-of i
+  unfolding columnAt
+  column-back i h =
+      let c = count-at i h in
+      let s = l .short i h in
+      let n = length-take (getD counts-of i 0) (drop (i * room) tableau-of) in
+      let d = length-drop (i * room) tableau-of in
+      let f = length-listed code-of (8 * room) in
+      ext-getD 0 (columnAt counts-of tableau-of i) (column-of i) (omega arith)
+      (λ j b. getD-take (getD counts-of i 0) (drop (i * room) tableau-of) j 0 (omega arith)
+      ∙ getD-drop (i * room) tableau-of j 0 ∙ code-at i j h (omega arith))
+
+  -- what the record of a table shows is that table
+  pub shown-of-record : shown (boardOf t) ≡ t
+  unfolding shown boardOf
+  shown-of-record =
+      ap (λ (c : List (List ℕ)). record { cells = t .cells; foundation = t .foundation; columns = c })
+      (listed-same (columnAt counts-of tableau-of) column-of 8 column-back ∙ all-of-them)
+    where
+      all-of-them : listed 8 column-of ≡ t .columns
+      all-of-them =
+          ext-getD [] (listed 8 column-of) (t .columns) (length-listed column-of 8 ∙ sym (l .eight))
+          (λ i h. getD-listed column-of 8 i [] (let n = length-listed column-of 8 in omega arith))
+
+  shape-of-record : shapely (boardOf t) ≡ true
+  unfolding boardOf
+  shape-of-record =
+      shape-of (boardOf t) (l .piles) (length-listed (λ i. length (column-of i)) 8) (length-listed code-of (8 * room))
+      (λ i h. let c = count-at i h in let s = l .short i h in omega arith)
+      (λ i j h a b. code-at i j h b ∙ List·getD-eq-default (column-of i) 0 (let c = count-at i h in omega arith))
+
+  pub fine-of-record : judged t ≡ fine → examined (boardOf t) ≡ fine
+  fine-of-record e = good-shape (boardOf t) shape-of-record ∙ ap judged shown-of-record ∙ e
+
+  pub sized-of-record : Sized (boardOf t)
+  unfolding boardOf
+  sized-of-record =
+      record { four = l .four; piles = l .piles .four; eight = length-listed (λ i. length (column-of i)) 8; full = length-listed code-of (8 * room) }
