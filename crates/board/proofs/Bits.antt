@@ -6,7 +6,7 @@ use native.Mathlib.Numerals.{one-add}
 use native.Mathlib.Omega.{arith}
 use lib.Pow.{shr-shr}
 use lib.Count.{ones, ones-step, ones-le}
-use Rattle.card.proofs.Sums.{sum-same}
+use Rattle.card.proofs.Sums.{sum-none, sum-first, sum-same}
 use Rattle.card.specs.Words.{sum}
 use Rattle.board.specs.Inner.{bitAt}
 
@@ -62,18 +62,12 @@ bit-fits (suc m) (suc k) n h b e =
 
 -- ---- the ones of a number are its bits added up
 
-front : (f : ℕ → ℕ) (m : ℕ) → sum (suc m) f ≡ f 0 + sum m (λ k. f (suc k))
-unfolding sum
-front f zero = omega arith
-front f (suc m) = let e = front f m in omega arith
-
 pub ones-are-bits : (m n : ℕ) → n < 2 ^ m → ones n ≡ sum m (λ k. bitAt n k)
-unfolding sum
-ones-are-bits zero n h = omega (arith, ones-le 0 n h)
+ones-are-bits zero n h = omega (arith, ones-le 0 n h, sum-none (λ k. bitAt n k))
 ones-are-bits (suc m) n h =
     let g = pow-suc 2 m in
     let i = ones-are-bits m (n / 2) (omega arith) in
     ones-step n
-    ∙ (let e = front (λ k. bitAt n k) m in
+    ∙ (let e = sum-first (λ k. bitAt n k) m in
     let s = sum-same (λ k. bitAt n (suc k)) (λ k. bitAt (n / 2) k) m (λ k l. bit-next n k) in
     omega (arith, bit-first n))

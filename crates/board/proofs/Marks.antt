@@ -8,11 +8,11 @@ use native.Mathlib.Omega.{arith}
 use native.Mathlib.Decide.{ℕ-discrete}
 use lib.Count.{ones}
 use lib.Dec.{leb, eqb}
-use borrow.Author.Tests.{eq-eqb, ne-eqb, leb-true, le-leb, lt-leb}
+use borrow.Author.Tests.{leb-true, le-leb, lt-leb}
 use Rattle.card.specs.Words.{every, occurs, sum, listed, concat}
 use Rattle.card.specs.Card.{isCard}
 use Rattle.card.specs.Pack.{cardAt, placeOf}
-use Rattle.card.proofs.Words.{concat-none, concat-more, concat-split, occurs-append, every-at, every-by, every-fails, not-so, same-test}
+use Rattle.card.proofs.Words.{concat-none, concat-more, concat-split, occurs-none, occurs-here, occurs-other, occurs-append, every-at, every-by, every-fails, not-so, same-test}
 use Rattle.card.proofs.Sums.{sum-same, sum-full, sum-all}
 use Rattle.card.proofs.Codes.{at-place, place-at, place-below}
 use Rattle.board.specs.Judged.{noneTwice, noneMissing}
@@ -23,13 +23,11 @@ use Rattle.board.proofs.Bits.{bit-small, bit-here, bit-other, bit-fits,
 
 -- ---- what a list says of one card
 
-pub one-here : (x y : ℕ) → x ≡ y → occurs x (y ∷ []) ≡ 1
-unfolding occurs
-one-here x y e = rw (eq-eqb x y e)
+one-here : (x y : ℕ) → x ≡ y → occurs x (y ∷ []) ≡ 1
+one-here x y e = occurs-here x y [] e ∙ ap suc (occurs-none x)
 
-pub one-other : (x y : ℕ) → (x ≡ y → ⊥) → occurs x (y ∷ []) ≡ 0
-unfolding occurs
-one-other x y d = rw (ne-eqb x y d)
+one-other : (x y : ℕ) → (x ≡ y → ⊥) → occurs x (y ∷ []) ≡ 0
+one-other x y d = occurs-other x y [] d ∙ occurs-none x
 
 pub twice-fails : (l : List ℕ) (k : ℕ) → k < 52 → 2 ≤ occurs (cardAt k) l → noneTwice l ≡ false
 unfolding noneTwice
@@ -147,8 +145,8 @@ module _ {seen : ℕ} (f : ℕ → List ℕ) (n : ℕ) where
 -- ---- what the end says, begun with no card seen
 
 pub holds-none : Holds 0 []
-unfolding bitAt occurs
-holds-none = record { below = omega arith; bits = λ k b. ap (λ (m : ℕ). m % 2) (zero-div (2 ^ k)) }
+unfolding bitAt
+holds-none = record { below = omega arith; bits = λ k b. ap (λ (m : ℕ). m % 2) (zero-div (2 ^ k)) ∙ sym (occurs-none (cardAt k)) }
 
 pub holds-once : {seen : ℕ} {l : List ℕ} → Holds seen l → noneTwice l ≡ true
 holds-once {seen} {l} h = none-twice l (λ k b. let a = h .bits k b in let s = bit-small seen k in omega arith)

@@ -17,16 +17,34 @@ use Rattle.board.specs.declared.Board.{Board}
 use Rattle.board.proofs.Judging.{good-shape}
 use Rattle.board.proofs.Soundness.{column-length, column-code, shape-of}
 
+-- the record of eight columns, count by count and place by place
+module _ (cells foundation : List ℕ) (f : ℕ → List ℕ) where
+  pub record-of-columns : boardOf (record { cells = cells; foundation = foundation; columns = listed 8 f })
+      ≡ record { cells = cells; foundation = foundation; counts = listed 8 (λ i. length (f i)); tableau = listed (8 * room) (λ p. getD (f (p / room)) (p % room) 0) }
+  unfolding boardOf
+  record-of-columns =
+      ap (λ (c : List ℕ). record { cells = cells; foundation = foundation; counts = c; tableau = listed (8 * room) inColumns })
+      (listed-same (λ i. length (getD (listed 8 f) i [])) (λ i. length (f i)) 8 (λ i h. ap length (getD-listed f 8 i [] h)))
+      ∙ ap (λ (t : List ℕ). record { cells = cells; foundation = foundation; counts = listed 8 (λ i. length (f i)); tableau = t })
+      (listed-same inColumns (λ p. getD (f (p / room)) (p % room) 0) (8 * room)
+      (λ p h. ap (λ (l : List ℕ). getD l (p % room) 0) (getD-listed f 8 (p / room) [] (omega arith))))
+    where
+      inColumns : ℕ → ℕ
+      inColumns p = getD (getD (listed 8 f) (p / room) []) (p % room) 0
+
+-- a list of n numbers is listed by its places
+pub listed-back : (l : List ℕ) (n : ℕ) → length l ≡ n → listed n (λ k. getD l k 0) ≡ l
+listed-back l n e =
+    ext-getD 0 (listed n (λ k. getD l k 0)) l (length-listed (λ k. getD l k 0) n ∙ sym e)
+    (λ k h. getD-listed (λ k. getD l k 0) n k 0 (let m = length-listed (λ k. getD l k 0) n in omega arith))
+
 module _ (b : Board) (g : GoodColumns (b .counts) (b .tableau)) where
   abbrev column : ℕ → List ℕ
   column = columnAt (b .counts) (b .tableau)
 
-  same-counts : listed 8 (λ i. length (getD (listed 8 column) i [])) ≡ b .counts
+  same-counts : listed 8 (λ i. length (column i)) ≡ b .counts
   same-counts =
-      ext-getD 0 (listed 8 (λ i. length (getD (listed 8 column) i []))) (b .counts)
-      (length-listed (λ i. length (getD (listed 8 column) i [])) 8 ∙ sym (g .eight))
-      (λ k h. let l : k < 8 = (let n = length-listed (λ i. length (getD (listed 8 column) i [])) 8 in omega arith) in
-      getD-listed (λ i. length (getD (listed 8 column) i [])) 8 k 0 l ∙ ap length (getD-listed column 8 k [] l) ∙ column-length g k l)
+      listed-same (λ i. length (column i)) (λ i. getD (b .counts) i 0) 8 (column-length g) ∙ listed-back (b .counts) 8 (g .eight)
 
   -- the code at row j of column i, and 0 past the column's end
   code-there : (i j : ℕ) → i < 8 → j < room → getD (column i) j 0 ≡ getD (b .tableau) (i * room + j) 0
@@ -37,23 +55,19 @@ module _ (b : Board) (g : GoodColumns (b .counts) (b .tableau)) where
       by-side (no m) =
           List·getD-eq-default (column i) 0 (let n = column-length g i h in omega arith) ∙ sym (g .spare i j h (omega arith) l)
 
-  same-codes : listed (8 * room) (λ p. getD (getD (listed 8 column) (p / room) []) (p % room) 0) ≡ b .tableau
+  same-codes : listed (8 * room) (λ p. getD (column (p / room)) (p % room) 0) ≡ b .tableau
   same-codes =
-      ext-getD 0 (listed (8 * room) code) (b .tableau) (length-listed code (8 * room) ∙ sym (g .full))
-      (λ k h. let l : k < 8 * room = (let n = length-listed code (8 * room) in omega arith) in
-      getD-listed code (8 * room) k 0 l
-      ∙ ap (λ (c : List ℕ). getD c (k % room) 0) (getD-listed column 8 (k / room) [] (omega arith))
-      ∙ code-there (k / room) (k % room) (omega arith) (omega arith)
-      ∙ ap (λ (p : ℕ). getD (b .tableau) p 0) (let q : k / room * room + k % room ≡ k = omega arith in q))
-    where
-      code : ℕ → ℕ
-      code p = getD (getD (listed 8 column) (p / room) []) (p % room) 0
+      listed-same (λ p. getD (column (p / room)) (p % room) 0) (λ p. getD (b .tableau) p 0) (8 * room)
+      (λ p h. code-there (p / room) (p % room) (omega arith) (omega arith)
+      ∙ ap (λ (q : ℕ). getD (b .tableau) q 0) (let q : p / room * room + p % room ≡ p = omega arith in q))
+      ∙ listed-back (b .tableau) (8 * room) (g .full)
 
   -- the record of what a record shows is that record
   pub record-of-shown : boardOf (shown b) ≡ b
-  unfolding boardOf shown
+  unfolding shown
   record-of-shown =
-      ap (λ (c : List ℕ). record { cells = b .cells; foundation = b .foundation; counts = c; tableau = listed (8 * room) (λ p. getD (getD (listed 8 column) (p / room) []) (p % room) 0) }) same-counts
+      record-of-columns (b .cells) (b .foundation) column
+      ∙ ap (λ (c : List ℕ). record { cells = b .cells; foundation = b .foundation; counts = c; tableau = listed (8 * room) (λ p. getD (column (p / room)) (p % room) 0) }) same-counts
       ∙ ap (λ (t : List ℕ). record { cells = b .cells; foundation = b .foundation; counts = b .counts; tableau = t }) same-codes
 
 -- two records whose unused room is zero and that show the same table are the same record

@@ -5,7 +5,8 @@ use mathlib.Core.List.{List, [], _∷_, _++_}
 use Prim.Native.Nat.{ℕ, zero, suc, _+_, _-_, _*_, _<_, _≤_}
 use native.Mathlib.Omega.{arith}
 use lib.Dec.{eqb}
-use lib.ListN.{length, getD, take, drop}
+use lib.ListN.{length, getD, take, drop, length-take, length-drop, List·getD-eq-default}
+use lib.Seq.{getD-take, getD-drop}
 use borrow.Author.Tests.{eq-eqb, ne-eqb, leb-true}
 use Rattle.card.specs.Words.{all, listed, concat}
 use Rattle.card.specs.Card.{isCard}
@@ -49,6 +50,34 @@ pub part-is : (starts counts codes : List ℕ) (i w : ℕ) → w ≡ getD counts
 unfolding partAt
 part-is starts counts codes i w e =
     ap (λ (n : ℕ). take n (drop (getD starts i 0) codes)) (let q : (getD starts i 0 + w) - getD starts i 0 ≡ getD counts i 0 = omega arith in q)
+
+module _ (starts counts codes : List ℕ) (i : ℕ) where
+  pub part-length : getD starts i 0 + getD counts i 0 ≤ length codes → length (partAt starts counts codes i) ≡ getD counts i 0
+  unfolding partAt
+  part-length w =
+      length-take (getD counts i 0) (drop (getD starts i 0) codes) ∙ (let l = length-drop (getD starts i 0) codes in omega arith)
+
+  pub part-code : (row : ℕ) → row < getD counts i 0 → getD (partAt starts counts codes i) row 0 ≡ getD codes (getD starts i 0 + row) 0
+  unfolding partAt
+  part-code row h = getD-take (getD counts i 0) (drop (getD starts i 0) codes) row 0 h ∙ getD-drop (getD starts i 0) codes row 0
+
+  pub part-past : (row : ℕ) → getD counts i 0 ≤ row → getD (partAt starts counts codes i) row 0 ≡ 0
+  unfolding partAt
+  part-past row h =
+      List·getD-eq-default (take (getD counts i 0) (drop (getD starts i 0) codes)) 0
+      (let l = length-take (getD counts i 0) (drop (getD starts i 0) codes) in omega arith)
+
+  -- a part depends on its own start and count alone
+  pub part-same : (starts′ counts′ : List ℕ) → getD starts′ i 0 ≡ getD starts i 0 → getD counts′ i 0 ≡ getD counts i 0
+      → partAt starts′ counts′ codes i ≡ partAt starts counts codes i
+  unfolding partAt
+  part-same starts′ counts′ s c =
+      ap (λ (n : ℕ). take n (drop (getD starts′ i 0) codes)) c ∙ ap (λ (n : ℕ). take (getD counts i 0) (drop n codes)) s
+
+  pub part-at : (start count : ℕ) → getD starts i 0 ≡ start → getD counts i 0 ≡ count → partAt starts counts codes i ≡ take count (drop start codes)
+  unfolding partAt
+  part-at start count s c =
+      ap (λ (n : ℕ). take n (drop (getD starts i 0) codes)) c ∙ ap (λ (n : ℕ). take count (drop n codes)) s
 
 pub spare-is : (counts tableau : List ℕ) (i w : ℕ) → w ≡ getD counts i 0
     → take ((i * 52 + 52) - (i * 52 + w)) (drop (i * 52 + w) tableau) ≡ spareAt counts tableau i

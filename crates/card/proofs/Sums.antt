@@ -2,10 +2,25 @@
 use mathlib.Core.Path.{_≡_, refl, sym, ap, _∙_}
 use Prim.Native.Nat.{ℕ, zero, suc, _+_, _<_, _≤_}
 use native.Mathlib.Nat.{not-suc-le-zero}
+use native.Mathlib.Numerals.{add-one}
 use native.Mathlib.Omega.{arith}
 use native.Mathlib.Decide.{ℕ-discrete}
 use borrow.Author.Count.{below-more}
 use Rattle.card.specs.Words.{sum}
+
+pub sum-none : (f : ℕ → ℕ) → sum 0 f ≡ 0
+unfolding sum
+sum-none f = refl
+
+pub sum-next : (f : ℕ → ℕ) (i : ℕ) → sum (i + 1) f ≡ sum i f + f i
+unfolding sum
+sum-next f i = rw add-one refl
+
+-- the first term apart
+pub sum-first : (f : ℕ → ℕ) (m : ℕ) → sum (suc m) f ≡ f 0 + sum m (λ k. f (suc k))
+unfolding sum
+sum-first f zero = omega arith
+sum-first f (suc m) = let e = sum-first f m in omega arith
 
 pub sum-same : (f g : ℕ → ℕ) (n : ℕ) → ((k : ℕ) → k < n → f k ≡ g k) → sum n f ≡ sum n g
 unfolding sum

@@ -11,6 +11,7 @@ use borrow.Author.Count.{below-more}
 use lib.ListN.{length, getD, take, length-append, List·getD-append}
 use lib.Seq.{getD-at, take-suc, take-length}
 use lib.Dec.{eqb}
+use borrow.Author.Tests.{eq-eqb, ne-eqb}
 use Rattle.card.specs.Words.{every, all, occurs, listed, concat, sum}
 
 -- ---- tests
@@ -196,10 +197,28 @@ all-concat p f (suc n) =
 
 -- ---- occurs
 
+pub occurs-none : (x : ℕ) → occurs x [] ≡ 0
+unfolding occurs
+occurs-none x = refl
+
+pub occurs-here : (x y : ℕ) (l : List ℕ) → x ≡ y → occurs x (y ∷ l) ≡ suc (occurs x l)
+unfolding occurs
+occurs-here x y l e = rw (eq-eqb x y e) (omega arith)
+
+pub occurs-other : (x y : ℕ) (l : List ℕ) → (x ≡ y → ⊥) → occurs x (y ∷ l) ≡ occurs x l
+unfolding occurs
+occurs-other x y l d = rw (ne-eqb x y d) (omega arith)
+
 pub occurs-append : (x : ℕ) (s t : List ℕ) → occurs x (s ++ t) ≡ occurs x s + occurs x t
 unfolding occurs
 occurs-append x [] t = omega arith
 occurs-append x (y ∷ s) t = let e = occurs-append x s t in omega arith
+
+-- counted place by place
+pub occurs-listed : (x n : ℕ) (g : ℕ → ℕ) → occurs x (listed n g) ≡ sum n (λ k. cond (eqb x (g k)) 1 0)
+unfolding listed sum occurs
+occurs-listed x zero g = refl
+occurs-listed x (suc n) g = occurs-append x (listed n g) (g n ∷ []) ∙ (let e = occurs-listed x n g in omega arith)
 
 pub occurs-concat : (x : ℕ) (f : ℕ → List ℕ) (n : ℕ) → occurs x (concat (listed n f)) ≡ sum n (λ i. occurs x (f i))
 unfolding sum listed concat occurs

@@ -3,19 +3,18 @@ use mathlib.Core.Path.{_≡_, refl, sym, ap, _∙_, subst}
 use mathlib.Core.Bool.{Bool, true, false, cond}
 use mathlib.Core.List.{List, [], _∷_, _++_}
 use Prim.Native.Nat.{ℕ, zero, suc, _+_, _*_, _<_, _≤_}
-use native.Mathlib.Numerals.{add-one}
 use native.Mathlib.Omega.{arith}
-use borrow.Author.Tests.{leb-true, eqb-true, eq-eqb}
+use borrow.Author.Tests.{leb-true, eqb-true}
 use lib.Dec.{leb, eqb}
 use lib.ListN.{length, getD, take, drop, replicate, length-take, length-drop, getD-replicate}
 use Rattle.card.specs.Words.{every, all, occurs, listed, concat, sum}
 use Rattle.card.specs.Answer.{Answer, given, refused, unless}
 use Rattle.card.specs.Card.{isCard}
 use Rattle.card.specs.Pack.{cardAt}
-use Rattle.card.proofs.Words.{both, all-at, all-by, all-concat, every-by, listed-more, length-listed, getD-listed, occurs-append, occurs-concat, singles, singles-listed}
+use Rattle.card.proofs.Words.{all-at, all-by, all-concat, every-by, length-listed, getD-listed, occurs-listed, occurs-concat, singles, singles-listed}
 use Rattle.card.proofs.Sums.{sum-same}
-use Rattle.board.specs.Table.{Table, pile, piles, held, cardsOn}
-use Rattle.board.specs.Judged.{Verdict, fine, after, isCell, onlyCards, noneTwice, judged, wellFormed}
+use Rattle.board.specs.Table.{Table}
+use Rattle.board.specs.Judged.{Verdict, fine, after, noneTwice, judged, wellFormed}
 use Rattle.board.specs.Record.{room, atMost, examined, boardOf}
 use Rattle.board.specs.Inner.{GoodPiles, Sound, Sized}
 use Rattle.board.specs.declared.Board.{Board}
@@ -23,7 +22,7 @@ use Rattle.board.proofs.Tables.{good-piles}
 use Rattle.board.proofs.Soundness.{sound, fair}
 use Rattle.board.proofs.Counting.{whole-pack}
 use Rattle.board.proofs.Records.{Laid, fine-of-record, sized-of-record}
-use Rattle.board.proofs.Fitting.{fits}
+use Rattle.board.proofs.Fitting.{fits, bare-fair}
 use Rattle.intake.specs.Image.{joining, columnsIn, judgedWith, framed, versioned, bodied, imageRead}
 use Rattle.intake.specs.Deal.{rows, dealtColumn, dealt, dealAsked}
 use Rattle.intake.proofs.Dealing.{row-within, board-dealt}
@@ -101,12 +100,6 @@ read-fine image e =
 
 -- ---- a deal
 
-occurs-listed : (x n : ℕ) (g : ℕ → ℕ) → occurs x (listed n g) ≡ sum n (λ k. cond (eqb x (g k)) 1 0)
-unfolding listed sum occurs
-occurs-listed x zero g = refl
-occurs-listed x (suc n) g =
-    occurs-append x (listed n g) (g n ∷ []) ∙ (let e = occurs-listed x n g in omega arith)
-
 -- the eight columns of a deck of 52 hold the deck's cards
 shuffled : (f : ℕ → ℕ) → sum 8 (λ i. sum (rows i) (λ r. f (r * 8 + i))) ≡ sum 52 f
 unfolding sum rows
@@ -140,11 +133,9 @@ module _ (deck : List ℕ) (full : length deck ≡ 52) where
 
     -- a deal is well formed
     pub dealt-fair : wellFormed (dealt deck) ≡ true
-    unfolding wellFormed onlyCards dealt cardsOn piles pile held listed concat isCell all
+    unfolding dealt
     dealt-fair =
-        both dealt-cards
-        (every-by (λ k. eqb (occurs (cardAt k) (cardsOn (dealt deck))) 1) 52
-        (λ k h. eq-eqb (occurs (cardAt k) (cardsOn (dealt deck))) 1 (same-cards (cardAt k) ∙ whole-pack deck cards once full k h)))
+        bare-fair (listed 8 (dealtColumn deck)) dealt-cards (λ k h. same-cards (cardAt k) ∙ whole-pack deck cards once full k h)
 
 -- dealing gives a fine board, if any, with 7, 7, 7, 7, 6, 6, 6, 6 cards in its columns
 pub deal-fine : (deck : List ℕ) {b : Board} → dealAsked deck ≡ given b → Fine b

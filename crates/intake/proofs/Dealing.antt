@@ -13,6 +13,7 @@ use Rattle.card.specs.Card.{isCard}
 use Rattle.card.proofs.Words.{listed-same, length-listed, getD-listed}
 use Rattle.board.specs.Judged.{noneTwice}
 use Rattle.board.specs.Record.{room, boardOf}
+use Rattle.board.proofs.Records.{record-of-columns}
 use Rattle.intake.specs.Deal.{rows, dealtColumn, dealt, dealAsked}
 use Rattle.intake.specs.Inside.{deckCode}
 use Rattle.board.specs.declared.Board.{Board}
@@ -54,6 +55,11 @@ row-past i r h b = by-side (decLt i 4)
     by-side (yes l) = let q : 7 ≤ r = rw (lt-ltb i 4 l) at b in omega arith
     by-side (no l) = let q : 6 ≤ r = rw (le-ltb i 4 (omega arith)) at b in omega arith
 
+-- seven cards in each of the first four columns, six in the others
+column-counts : (deck : List ℕ) → listed 8 (λ i. length (dealtColumn deck i)) ≡ 7 ∷ 7 ∷ 7 ∷ 7 ∷ 6 ∷ 6 ∷ 6 ∷ 6 ∷ []
+unfolding dealtColumn rows listed
+column-counts deck = refl
+
 module _ (deck : List ℕ) (full : length deck ≡ 52) where
   pub dealt-row : (i r : ℕ) → i < 8 → getD (dealtColumn deck i) r 0 ≡ getD deck (r * 8 + i) 0
   unfolding dealtColumn
@@ -66,15 +72,12 @@ module _ (deck : List ℕ) (full : length deck ≡ 52) where
           (let e = length-listed (λ row. getD deck (row * 8 + i) 0) (rows i) in omega arith)
           ∙ sym (List·getD-eq-default deck 0 (let p = row-past i r h (omega arith) in omega arith))
 
-  same-codes : listed 416 (λ p. getD (getD (listed 8 (dealtColumn deck)) (p / room) []) (p % room) 0) ≡ listed 416 (deckCode deck)
-  same-codes =
-      listed-same (λ p. getD (getD (listed 8 (dealtColumn deck)) (p / room) []) (p % room) 0) (deckCode deck) 416
-      (λ k h. ap (λ (l : List ℕ). getD l (k % room) 0) (getD-listed (dealtColumn deck) 8 (k / room) [] (omega arith))
-      ∙ dealt-row (k / room) (k % room) (omega arith))
-
   pub board-dealt : boardOf (dealt deck)
       ≡ record { cells = replicate 4 255; foundation = replicate 4 0; counts = 7 ∷ 7 ∷ 7 ∷ 7 ∷ 6 ∷ 6 ∷ 6 ∷ 6 ∷ []; tableau = listed 416 (deckCode deck) }
-  unfolding boardOf dealt dealtColumn rows listed
+  unfolding dealt
   board-dealt =
-      ap (λ (t : List ℕ). record { cells = replicate 4 255; foundation = replicate 4 0; counts = 7 ∷ 7 ∷ 7 ∷ 7 ∷ 6 ∷ 6 ∷ 6 ∷ 6 ∷ []; tableau = t })
-      same-codes
+      record-of-columns (replicate 4 255) (replicate 4 0) (dealtColumn deck)
+      ∙ ap (λ (c : List ℕ). record { cells = replicate 4 255; foundation = replicate 4 0; counts = c; tableau = listed 416 (λ p. getD (dealtColumn deck (p / room)) (p % room) 0) })
+      (column-counts deck)
+      ∙ ap (λ (t : List ℕ). record { cells = replicate 4 255; foundation = replicate 4 0; counts = 7 ∷ 7 ∷ 7 ∷ 7 ∷ 6 ∷ 6 ∷ 6 ∷ 6 ∷ []; tableau = t })
+      (listed-same (λ p. getD (dealtColumn deck (p / room)) (p % room) 0) (deckCode deck) 416 (λ p h. dealt-row (p / room) (p % room) (omega arith)))

@@ -1,15 +1,14 @@
--- Filling an array place by place, and the codes at the places of parts.
+-- Filling an array place by place.
 use mathlib.Core.Path.{_≡_, refl, sym, ap, _∙_}
 use mathlib.Core.List.{List, [], _∷_}
 use Prim.Native.Nat.{ℕ, zero, suc, _+_, _<_, _≤_}
 use native.Mathlib.Numerals.{add-one}
 use native.Mathlib.Omega.{arith}
 use borrow.Author.Count.{below-more}
-use lib.ListN.{length, getD, take, drop, set, replicate, length-set, length-replicate, length-take, List·getD-eq-default}
-use lib.Seq.{getD-set-same, getD-set-other, ext-getD, getD-take, getD-drop, drop-cons}
+use lib.ListN.{length, getD, take, drop, set, replicate, length-set, length-replicate}
+use lib.Seq.{getD-set-same, getD-set-other, ext-getD, drop-cons}
 use Rattle.card.specs.Words.{listed}
 use Rattle.card.proofs.Words.{length-listed, getD-listed}
-use Rattle.board.specs.Inner.{partAt}
 
 -- the first p of n places are filled by f
 pub record Filled (f : ℕ → ℕ) (n : ℕ) (s : List ℕ) (p : ℕ) : Type 0 where
@@ -35,19 +34,6 @@ module _ (f : ℕ → ℕ) (n : ℕ) where
   filled-end {s} {p} a h =
       ext-getD 0 s (listed n f) (a .long ∙ sym (length-listed f n))
       (λ k b. let l = a .long in a .upto k (omega arith) ∙ sym (getD-listed f n k 0 (omega arith)))
-
--- ---- the codes of a part
-
-module _ (starts counts codes : List ℕ) (i row : ℕ) where
-  pub part-code : row < getD counts i 0 → getD (partAt starts counts codes i) row 0 ≡ getD codes (getD starts i 0 + row) 0
-  unfolding partAt
-  part-code h = getD-take (getD counts i 0) (drop (getD starts i 0) codes) row 0 h ∙ getD-drop (getD starts i 0) codes row 0
-
-  pub part-past : getD counts i 0 ≤ row → getD (partAt starts counts codes i) row 0 ≡ 0
-  unfolding partAt
-  part-past h =
-      List·getD-eq-default (take (getD counts i 0) (drop (getD starts i 0) codes)) 0
-      (let l = length-take (getD counts i 0) (drop (getD starts i 0) codes) in omega arith)
 
 -- ---- one element more of a part
 

@@ -6,17 +6,19 @@ use Prim.Native.Nat.{ℕ, zero, suc, _+_, _-_, _*_, _/_, _%_, _<_, _≤_}
 use native.Mathlib.Omega.{arith}
 use borrow.Author.Tests.{le-leb, lt-leb, eq-eqb, ne-eqb}
 use lib.Dec.{leb, eqb}
-use lib.ListN.{length, getD, take, drop, length-drop, length-take}
-use lib.Seq.{drop-drop, ext-getD}
+use lib.ListN.{length, getD, take, drop, length-drop}
+use lib.Seq.{drop-drop}
 use Rattle.card.specs.Words.{all, listed}
 use Rattle.card.specs.Answer.{Answer, given, refused, unless}
-use Rattle.card.proofs.Words.{listed-same, length-listed, getD-listed, first-fails, second-fails, both}
+use Rattle.card.proofs.Words.{listed-same, second-fails, both}
 use Rattle.board.specs.Table.{Table}
 use Rattle.board.specs.Judged.{Verdict, fine, after, judged}
 use Rattle.board.specs.Record.{room, atMost, boardOf}
 use Rattle.intake.specs.Handed.{blank}
 use Rattle.board.specs.Refusal.{numberOf, examinedTold}
 use Rattle.intake.specs.Handed.{readingTold, beside}
+use Rattle.board.proofs.Tables.{part-length}
+use Rattle.board.proofs.Records.{record-of-columns, listed-back}
 use Rattle.intake.specs.Image.{framed, versioned, columnsIn, judgedWith, bodied, imageRead}
 use Rattle.board.specs.Inner.{partAt, Parts}
 use Rattle.intake.specs.Handed.{Hands}
@@ -37,38 +39,14 @@ hands-yes q = record { told = sym q; board = ap beside (sym q) }
 
 -- ---- the record of parts
 
-part-length : (starts counts codes : List ℕ) → Parts starts counts codes → (i : ℕ) → i < 8 → length (partAt starts counts codes i) ≡ getD counts i 0
-unfolding partAt
-part-length starts counts codes p i h =
-    let w = p .within i h in
-    length-take (getD counts i 0) (drop (getD starts i 0) codes) ∙ (let l = length-drop (getD starts i 0) codes in omega arith)
-
 pub board-of-parts : (cells foundation starts counts codes : List ℕ) → Parts starts counts codes
     → boardOf (record { cells = cells; foundation = foundation; columns = listed 8 (partAt starts counts codes) })
     ≡ record { cells = cells; foundation = foundation; counts = counts; tableau = listed 416 (partCode starts counts codes) }
-unfolding boardOf
 board-of-parts cells foundation starts counts codes p =
-    ap (λ (c : List ℕ). record { cells = cells; foundation = foundation; counts = c; tableau = listed 416 inColumns }) same-counts
-    ∙ ap (λ (t : List ℕ). record { cells = cells; foundation = foundation; counts = counts; tableau = t }) same-codes
-  where
-    part : ℕ → List ℕ
-    part = partAt starts counts codes
-
-    inColumns : ℕ → ℕ
-    inColumns k = getD (getD (listed 8 part) (k / room) []) (k % room) 0
-
-    same-codes : listed 416 inColumns ≡ listed 416 (partCode starts counts codes)
-    same-codes =
-        listed-same inColumns (partCode starts counts codes) 416
-        (λ k h. ap (λ (l : List ℕ). getD l (k % room) 0) (getD-listed part 8 (k / room) [] (omega arith)))
-
-    same-counts : listed 8 (λ i. length (getD (listed 8 part) i [])) ≡ counts
-    same-counts =
-        ext-getD 0 (listed 8 (λ i. length (getD (listed 8 part) i []))) counts
-        (length-listed (λ i. length (getD (listed 8 part) i [])) 8 ∙ sym (p .counts8))
-        (λ k h. let b : k < 8 = (let l = length-listed (λ i. length (getD (listed 8 part) i [])) 8 in omega arith) in
-        getD-listed (λ i. length (getD (listed 8 part) i [])) 8 k 0 b
-        ∙ ap length (getD-listed part 8 k [] b) ∙ part-length starts counts codes p k b)
+    record-of-columns cells foundation (partAt starts counts codes)
+    ∙ ap (λ (c : List ℕ). record { cells = cells; foundation = foundation; counts = c; tableau = listed 416 (partCode starts counts codes) })
+    (listed-same (λ i. length (partAt starts counts codes i)) (λ i. getD counts i 0) 8 (λ i h. part-length starts counts codes i (p .within i h))
+    ∙ listed-back counts 8 (p .counts8))
 
 -- ---- the body
 

@@ -12,6 +12,7 @@ use lib.Seq.{getD-set-same, getD-set-other, drop-cons, drop-drop}
 use Rattle.card.specs.Words.{listed}
 use Rattle.card.specs.Answer.{Answer, given, refused, unless}
 use Rattle.card.proofs.Words.{true-or-not, listed-same, listed-more}
+use Rattle.board.proofs.Tables.{part-same, part-at}
 use Rattle.intake.specs.Image.{joining, columnsIn}
 use Rattle.board.specs.Inner.{partAt, Parts}
 use Rattle.intake.specs.Inside.{Outlined}
@@ -110,17 +111,15 @@ module _ {image starts counts : List ℕ} {at i : ℕ} (a : Walk image starts co
 
   module _ (h : i < 8) (w : ℕ) (e : w ≡ getD image at 0) (b : at + 1 + w ≤ length image) where
     before : (k : ℕ) → k < i → partAt starts counts image k ≡ partAt (set starts i (at + 1)) (set counts i (getD image at 0)) image k
-    unfolding partAt
     before k l =
-        sym
-        (ap (λ (m : ℕ). take m (drop (getD (set starts i (at + 1)) k 0) image)) (getD-set-other counts i k (getD image at 0) 0 (λ q. let z : ⊥ = omega arith in z))
-        ∙ ap (λ (m : ℕ). take (getD counts k 0) (drop m image)) (getD-set-other starts i k (at + 1) 0 (λ q. let z : ⊥ = omega arith in z)))
+        part-same (set starts i (at + 1)) (set counts i (getD image at 0)) image k starts counts
+        (sym (getD-set-other starts i k (at + 1) 0 (λ q. let z : ⊥ = omega arith in z)))
+        (sym (getD-set-other counts i k (getD image at 0) 0 (λ q. let z : ⊥ = omega arith in z)))
 
     here : partAt (set starts i (at + 1)) (set counts i (getD image at 0)) image i ≡ take (getD image at 0) (drop (at + 1) image)
-    unfolding partAt
     here =
-        ap (λ (m : ℕ). take m (drop (getD (set starts i (at + 1)) i 0) image)) (getD-set-same counts i (getD image at 0) 0 (let l = a .counts8 in omega arith))
-        ∙ ap (λ (m : ℕ). take (getD image at 0) (drop m image)) (getD-set-same starts i (at + 1) 0 (let l = a .starts8 in omega arith))
+        part-at (set starts i (at + 1)) (set counts i (getD image at 0)) image i (at + 1) (getD image at 0)
+        (getD-set-same starts i (at + 1) 0 (let l = a .starts8 in omega arith)) (getD-set-same counts i (getD image at 0) 0 (let l = a .counts8 in omega arith))
 
     columns : listed i (partAt starts counts image) ++ (take (getD image at 0) (drop (at + 1) image) ∷ []) ≡ listed (i + 1) (partAt (set starts i (at + 1)) (set counts i (getD image at 0)) image)
     columns =

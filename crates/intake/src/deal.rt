@@ -19,9 +19,10 @@ fn dealt_code(deck: &[u8], p: usize) -> u8
     requires { ⌜ p < 416 ⌝ }
     ensures { λ r. ⌜ r ≡ deckCode (now (deck .entry)) p ⌝ }
 {
+    let column = p / 52;
     let row = p % 52;
     let before = row * 8;
-    let at = before + p / 52;
+    let at = before + column;
     if at < deck.len() {
         return deck[at];
     }

@@ -1,7 +1,7 @@
 // Reading a board image. Codes and repeats are judged on what the image shows; a record is filled only from an image
 // that is accepted.
 ghost use mathlib.Core.Path.{_≡_};
-ghost use Prim.Native.Nat.{_+_, _≤_, _<_};
+ghost use Prim.Native.Nat.{_+_, _*_, _≤_, _<_};
 ghost use lib.ListN.{length, take, drop};
 ghost use Rattle.card.specs.Words.{listed};
 ghost use Rattle.intake.specs.Image.{imageRead, bodied};
@@ -145,6 +145,14 @@ fn read_body(image: &[u8]) -> Reading
     }
 }
 
+// A two-byte count, the higher byte first.
+fn big_endian(high: u8, low: u8) -> usize
+    ensures { λ r. ⌜ r ≡ high * 256 + low ⌝ }
+{
+    let upper = card::wide(high) * 256;
+    upper + card::wide(low)
+}
+
 // 10, 11, 12, 13, 14, 15 in that order, or the board.
 pub fn read(image: &[u8]) -> Reading
     ensures { λ r. ⌜ Hands (imageRead (now (image .entry))) r ⌝ }
@@ -153,8 +161,7 @@ pub fn read(image: &[u8]) -> Reading
     if n < 2 {
         return no_board(Refusal::WrongLength);
     }
-    let high = card::wide(image[0]) * 256;
-    let declared = high + card::wide(image[1]);
+    let declared = big_endian(image[0], image[1]);
     if declared != n - 2 {
         return no_board(Refusal::WrongLength);
     }

@@ -92,10 +92,6 @@ module _ {counts tableau : List ℕ} (g : GoodColumns counts tableau) (i w : ℕ
 
 -- ---- counts
 
-pub sum-next : (f : ℕ → ℕ) (i : ℕ) → sum (i + 1) f ≡ sum i f + f i
-unfolding sum
-sum-next f i = rw add-one refl
-
 pub empty-cells : (cells : List ℕ) → length cells ≡ 4 → sum (length cells) (λ k. cond (eqb (getD cells k 0) 255) 1 0) ≡ emptyCells cells
 unfolding emptyCells
 empty-cells cells e = ap (λ (n : ℕ). sum n (λ k. cond (eqb (getD cells k 0) 255) 1 0)) e

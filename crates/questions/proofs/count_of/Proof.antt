@@ -9,7 +9,7 @@ use lib.Dec.{eqb}
 use lib.ListN.{length, getD}
 use borrow.Author.Tests.{eq-eqb, ne-eqb}
 use Rattle.card.specs.Words.{sum}
-use Rattle.questions.proofs.Asking.{sum-next}
+use Rattle.card.proofs.Sums.{sum-next}
 use borrow.Author.Needs.{needs}
 use Rattle.questions.proofs.count_of.Statement.{statement}
 use Rattle.questions.proofs.count_of.Tie as tie

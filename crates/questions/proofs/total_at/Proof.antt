@@ -5,7 +5,7 @@ use native.Mathlib.Omega.{arith}
 use lib.ListN.{getD}
 use Rattle.card.specs.Words.{sum}
 use Rattle.questions.specs.Questions.{homeCount}
-use Rattle.questions.proofs.Asking.{sum-next}
+use Rattle.card.proofs.Sums.{sum-next}
 use borrow.Author.Needs.{needs}
 use Rattle.questions.proofs.total_at.Statement.{statement}
 use Rattle.questions.proofs.total_at.Tie as tie

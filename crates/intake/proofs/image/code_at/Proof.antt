@@ -2,7 +2,7 @@
 use mathlib.Core.Path.{sym}
 use Prim.Native.Nat.{_/_, _%_}
 use native.Mathlib.Omega.{arith}
-use Rattle.intake.proofs.Filling.{part-code, part-past}
+use Rattle.board.proofs.Tables.{part-code, part-past}
 use borrow.Author.Needs.{needs}
 use Rattle.intake.proofs.image.code_at.Statement.{statement}
 use Rattle.intake.proofs.image.code_at.Tie as tie

@@ -1,7 +1,6 @@
 -- What `read` leaves to be shown: the length, the version, and then the body.
-use mathlib.Core.Path.{sym, subst}
-use native.Mathlib.Omega.{arith}
-use Rattle.card.specs.Answer.{Answer, given}
+use mathlib.Core.Path.{sym, _∙_, subst}
+use Rattle.card.specs.Answer.{Answer}
 use Rattle.board.specs.declared.Board.{Board}
 use Rattle.intake.specs.Handed.{Hands}
 use Rattle.intake.proofs.Imaging.{hands-no, too-short, wrong-count, no-version, wrong-version, to-the-body}
@@ -16,38 +15,28 @@ returns : tie.Need-returns
 returns c =
     hands-no (c .no-board .ensures) (too-short (c .before .before .before .args .image .now) (c .before .if1 .taken))
 
-shared-slice-read-wide : tie.Need-shared-slice-read-wide
-shared-slice-read-wide c = search needs
+shared-slice-read-big-endian : tie.Need-shared-slice-read-big-endian
+shared-slice-read-big-endian c = search needs
 
-wide-requires : tie.Need-wide-requires
-wide-requires c κs = search needs
+shared-slice-read-big-endian-2 : tie.Need-shared-slice-read-big-endian-2
+shared-slice-read-big-endian-2 c = search needs
 
-mul-high : tie.Need-mul-high
-mul-high c = omega (arith, c .wide .ensures, c .before .shared-slice-known2 .given 0)
-
-shared-slice-read-wide-2 : tie.Need-shared-slice-read-wide-2
-shared-slice-read-wide-2 c = search needs
-
-wide-requires-2 : tie.Need-wide-requires-2
-wide-requires-2 c κs = search needs
-
-add-declared : tie.Need-add-declared
-add-declared c =
-    omega (arith, c .before .before .wide .ensures, c .before .before .before .shared-slice-known2 .given 0, c .wide2 .ensures, c .before .shared-slice-known3 .given 1)
+big-endian-requires : tie.Need-big-endian-requires
+big-endian-requires c κs = search needs
 
 no-board-requires-2 : tie.Need-no-board-requires-2
 no-board-requires-2 c κs = search needs
 
 returns-2 : tie.Need-returns-2
 returns-2 c =
-    hands-no (c .no-board2 .ensures) (wrong-count (c .before .before .before .before .before .before .before .before .args .image .now) (λ q. c .before .if2 .taken (omega (arith, c .before .before .before .before .wide .ensures, c .before .before .wide2 .ensures))))
+    hands-no (c .no-board2 .ensures) (wrong-count (c .before .before .before .before .before .before .before .args .image .now) (λ q. c .before .if2 .taken (c .before .before .big-endian .ensures ∙ q)))
 
 no-board-requires-3 : tie.Need-no-board-requires-3
 no-board-requires-3 c κs = search needs
 
 returns-3 : tie.Need-returns-3
 returns-3 c =
-    hands-no (c .no-board3 .ensures) (no-version (c .before .before .before .before .before .before .before .before .before .args .image .now) (c .before .before .before .before .before .before .before .if1 .left) (omega (arith, c .before .before .before .before .before .wide .ensures, c .before .before .before .wide2 .ensures, c .before .before .if2 .left)) (c .before .if3 .taken))
+    hands-no (c .no-board3 .ensures) (no-version (c .before .before .before .before .before .before .before .before .args .image .now) (c .before .before .before .before .before .before .if1 .left) (sym (c .before .before .before .big-endian .ensures) ∙ c .before .before .if2 .left) (c .before .if3 .taken))
 
 shared-slice-read-if4 : tie.Need-shared-slice-read-if4
 shared-slice-read-if4 c = search needs
@@ -57,14 +46,15 @@ no-board-requires-4 c κs = search needs
 
 returns-4 : tie.Need-returns-4
 returns-4 c =
-    hands-no (c .no-board4 .ensures) (wrong-version (c .before .before .before .before .before .before .before .before .before .before .before .args .image .now) (c .before .before .before .before .before .before .before .before .before .if1 .left) (omega (arith, c .before .before .before .before .before .before .before .wide .ensures, c .before .before .before .before .before .wide2 .ensures, c .before .before .before .before .if2 .left)) (c .before .if4 .taken))
+    hands-no (c .no-board4 .ensures) (wrong-version (c .before .before .before .before .before .before .before .before .before .before .args .image .now) (c .before .before .before .before .before .before .before .before .if1 .left) (sym (c .before .before .before .before .before .big-endian .ensures) ∙ c .before .before .before .before .if2 .left) (c .before .if4 .taken))
 
 read-body-requires : tie.Need-read-body-requires
 read-body-requires c κs = search needs
 
 returns-5 : tie.Need-returns-5
 returns-5 c =
-    subst (λ (a : Answer Board). Hands a (c .read-body .result)) (sym (to-the-body (c .before .before .before .before .before .before .before .before .before .before .before .args .image .now) (c .before .before .before .before .before .before .before .before .before .if1 .left) (omega (arith, c .before .before .before .before .before .before .before .wide .ensures, c .before .before .before .before .before .wide2 .ensures, c .before .before .before .before .if2 .left)) (c .before .before .before .if3 .left) (c .before .if4 .left))) (c .read-body .ensures)
+    subst (λ (a : Answer Board). Hands a (c .read-body .result))
+    (sym (to-the-body (c .before .before .before .before .before .before .before .before .before .before .args .image .now) (c .before .before .before .before .before .before .before .before .if1 .left) (sym (c .before .before .before .before .before .big-endian .ensures) ∙ c .before .before .before .before .if2 .left) (c .before .before .before .if3 .left) (c .before .if4 .left))) (c .read-body .ensures)
 
 pub read-spec : {M : Type 1} → statement M
 read-spec =
@@ -72,12 +62,9 @@ read-spec =
     (tie.spec
     no-board-requires
     returns
-    shared-slice-read-wide
-    wide-requires
-    mul-high
-    shared-slice-read-wide-2
-    wide-requires-2
-    add-declared
+    shared-slice-read-big-endian
+    shared-slice-read-big-endian-2
+    big-endian-requires
     no-board-requires-2
     returns-2
     no-board-requires-3
