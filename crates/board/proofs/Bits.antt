@@ -1,10 +1,11 @@
 -- The bits of a number: one bit more changes that bit alone, and the ones are counted by adding the bits up.
 use mathlib.Core.Path.{_≡_, refl, sym, ap, _∙_}
 use Prim.Native.Nat.{ℕ, zero, suc, _+_, _*_, _/_, _%_, _^_, _<_, _≤_}
-use native.Mathlib.Nat.{pow-suc, not-suc-le-zero, le-of-suc-le-suc, pow-zero, div-one}
+use native.Mathlib.Nat.{one-mul, pow-suc, not-suc-le-zero, le-of-suc-le-suc, pow-zero, div-one}
 use native.Mathlib.Numerals.{one-add}
 use native.Mathlib.Omega.{arith}
-use lib.Pow.{shr-shr}
+use lib.Dec.{lit<}
+use lib.Pow.{shr-shr, shl-exact}
 use lib.Count.{ones, ones-step, ones-le}
 use Rattle.card.proofs.Sums.{sum-none, sum-first, sum-same}
 use Rattle.card.specs.Words.{sum}
@@ -21,6 +22,10 @@ bit-next n k = ap (λ (m : ℕ). m % 2) (ap (λ (j : ℕ). n / 2 ^ j) (sym (one-
 pub bit-small : (n k : ℕ) → bitAt n k ≤ 1
 unfolding bitAt
 bit-small n k = omega arith
+
+-- one bit of a word
+pub bit-word : (k : ℕ) → k < 64 → (1 * 2 ^ k) % 2 ^ 64 ≡ 2 ^ k
+bit-word k h = shl-exact 1 k 64 (lit< tt) (omega arith) ∙ one-mul (2 ^ k)
 
 -- ---- a bit that was not there is added
 

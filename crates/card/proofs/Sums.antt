@@ -47,6 +47,13 @@ sum-one f (suc n) j l h = here-or-before (sum-one f n j) (ℕ-discrete j n)
     here-or-before before (yes e) = omega (arith, ap f e, sum-zero f n (λ k m. h k (omega arith) (omega arith)))
     here-or-before before (no e) = omega (arith, before (omega arith) (λ k m q. h k (omega arith) q), h n (omega arith) (λ q. e (sym q)))
 
+-- a term is part of its sum
+pub sum-part : (f : ℕ → ℕ) (n j : ℕ) → j < n → f j ≤ sum n f
+unfolding sum
+sum-part f zero j h = absurd (not-suc-le-zero h)
+sum-part f (suc n) j h =
+    below-more (λ (k : ℕ). f k ≤ sum n f + f n) n (λ k l. let e = sum-part f n k l in omega arith) (omega arith) j (omega arith)
+
 pub sum-swap : (f : ℕ → ℕ → ℕ) (n m : ℕ) → sum n (λ i. sum m (λ j. f i j)) ≡ sum m (λ j. sum n (λ i. f i j))
 unfolding sum
 sum-swap f zero m = sym (sum-zero (λ j. 0) m (λ k l. refl))

@@ -3,16 +3,15 @@ use mathlib.Core.Path.{_≡_, sym, ap, _∙_, subst}
 use mathlib.Core.Bool.{true}
 use mathlib.Core.List.{_∷_, []}
 use Prim.Native.Nat.{ℕ, _+_, _*_, _/_, _%_, _^_, _<_}
-use native.Mathlib.Nat.{one-mul}
 use native.Mathlib.Omega.{arith}
-use lib.Dec.{lit<}
-use lib.Pow.{shl-exact, pow-lt}
+use lib.Pow.{pow-lt}
 use borrow.Author.Needs.{needs}
 use Rattle.card.specs.Card.{isCard}
 use Rattle.card.specs.Pack.{placeOf}
 use Rattle.card.proofs.Codes.{place-below}
 use Rattle.board.specs.Inner.{bitAt, Marks}
 use Rattle.board.specs.declared.Seen.the-variants.{Cards, Twice}
+use Rattle.board.proofs.Bits.{bit-word}
 use Rattle.board.proofs.Marks.{mark-again, mark-new}
 use Rattle.board.proofs.mask.mark.Statement.{statement}
 use Rattle.board.proofs.mask.mark.Tie as tie
@@ -22,7 +21,7 @@ module _ (seen code k : ℕ) (card : isCard code ≡ true) (e : k ≡ placeOf co
   below = omega (arith, place-below code card)
 
   word : (1 * 2 ^ k) % 2 ^ 64 ≡ 2 ^ k
-  word = shl-exact 1 k 64 (lit< tt) (let b = below in omega arith) ∙ one-mul (2 ^ k)
+  word = bit-word k (let b = below in omega arith)
 
   again : seen / 2 ^ k % 2 ≡ 1 → Marks seen (code ∷ []) Twice
   unfolding bitAt

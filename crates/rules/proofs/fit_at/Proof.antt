@@ -1,0 +1,59 @@
+-- What `fit_at` leaves to be shown: the column's last card decides, if it has one.
+use mathlib.Core.Path.{sym, ap, _∙_}
+use Prim.Native.Nat.{ℕ, _-_}
+use native.Mathlib.Omega.{arith}
+use Rattle.board.specs.Record.{columnAt}
+use Rattle.board.proofs.Soundness.{column-length, column-code}
+use Rattle.rules.specs.Fit.{follows}
+use Rattle.rules.proofs.Laying.{fits-none, fits-top}
+use borrow.Author.Needs.{needs}
+use Rattle.rules.proofs.fit_at.Statement.{statement}
+use Rattle.rules.proofs.fit_at.Tie as tie
+
+element-copy-out-wide : tie.Need-element-copy-out-wide
+element-copy-out-wide c = omega (arith, c .pre .0 .eight)
+
+wide-requires : tie.Need-wide-requires
+wide-requires c κs = search needs
+
+returns : tie.Need-returns
+returns c =
+    sym (fits-none (columnAt (c .before .before .before .args .counts .now) (c .before .before .before .args .tableau .now) (c .before .before .before .args .i)) (c .before .before .before .args .code) (column-length (c .before .before .before .pre .0) (c .before .before .before .args .i) (c .before .before .before .pre .1 .0) ∙ sym (c .before .wide .ensures) ∙ c .if1 .taken))
+
+mul-first : tie.Need-mul-first
+mul-first c = search needs
+
+sub-last : tie.Need-sub-last
+sub-last c = search needs
+
+add-last : tie.Need-add-last
+add-last c =
+    omega (arith, c .before .wide .ensures, c .before .before .before .pre .0 .within (c .before .before .before .args .i) (c .before .before .before .pre .1 .0))
+
+element-copy-out-may-lie-on : tie.Need-element-copy-out-may-lie-on
+element-copy-out-may-lie-on c =
+    omega (arith, c .before .wide .ensures, c .before .before .before .pre .0 .within (c .before .before .before .args .i) (c .before .before .before .pre .1 .0), c .before .before .before .pre .0 .full, c .if1 .left)
+
+may-lie-on-requires : tie.Need-may-lie-on-requires
+may-lie-on-requires c κs =
+    (c .before .before .before .before .pre .0 .codes (c .before .before .before .before .args .i) (c .before .before .wide .result - 1) (c .before .before .before .before .pre .1 .0) (omega (arith, c .before .before .wide .ensures, c .before .if1 .left)), c .before .before .before .before .pre .1 .1)
+
+returns-2 : tie.Need-returns-2
+returns-2 c =
+    c .may-lie-on .ensures
+    ∙ ap (λ (x : ℕ). follows x (c .before .before .before .before .before .args .code)) (sym (column-code (c .before .before .before .before .before .args .counts .now) (c .before .before .before .before .before .args .tableau .now) (c .before .before .before .before .before .args .i) (c .before .before .before .wide .result - 1) (omega (arith, c .before .before .before .wide .ensures, c .before .before .if1 .left))))
+    ∙ sym (fits-top (columnAt (c .before .before .before .before .before .args .counts .now) (c .before .before .before .before .before .args .tableau .now) (c .before .before .before .before .before .args .i)) (c .before .before .before .before .before .args .code) (c .before .before .before .wide .result - 1) (omega (arith, column-length (c .before .before .before .before .before .pre .0) (c .before .before .before .before .before .args .i) (c .before .before .before .before .before .pre .1 .0), c .before .before .before .wide .ensures, c .before .before .if1 .left)))
+
+pub fit-at-spec : {M : Type 1} → statement M
+fit-at-spec =
+    tie.close
+    (tie.spec
+    element-copy-out-wide
+    wide-requires
+    returns
+    mul-first
+    sub-last
+    add-last
+    element-copy-out-may-lie-on
+    may-lie-on-requires
+    returns-2)

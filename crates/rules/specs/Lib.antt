@@ -1,0 +1,5 @@
+-- Read these in this order.
+pub mod Fit
+pub mod Run
+pub mod Limit
+pub mod Asked
