@@ -2,7 +2,7 @@
 ghost use mathlib.Core.Path.{_≡_};
 ghost use mathlib.Core.Bool.{true};
 ghost use Rattle.card.specs.Suit.{suitNumber, suitAt, colorOf, suitAsked, suitTold};
-ghost use Rattle.card.specs.Card.{isCard, cardOf, codeAsked, codeTold, cardAsked, cardTold};
+ghost use Rattle.card.specs.Card.{isCard, isValue, cardOf, codeOf, codeAsked, codeTold, cardAsked, cardTold};
 ghost use Rattle.card.specs.Pack.{placeOf};
 
 pub enum Suit {
@@ -74,8 +74,8 @@ impl Suit {
     }
 }
 
-// The suit with a number that is known to be one.
-fn suit_at(v: u8) -> Suit
+// The suit with a number that is known to be one (spades for any above 3).
+pub fn suit_at(v: u8) -> Suit
     ensures { λ r. ⌜ r ≡ suitAt v ⌝ }
 {
     match v {
@@ -120,6 +120,18 @@ pub fn card_of(code: u8) -> Card
     }
 }
 
+// The code of a card whose value is known to be one.
+pub fn code_of(card: Card) -> u8
+    requires { ⌜ isValue (card .value) ≡ true ⌝ }
+    ensures { λ r. ⌜ r ≡ codeOf card ⌝ }
+{
+    let value = card.value;
+    let suit = card.suit;
+    let high = value * 16;
+    let low = suit.number();
+    high + low
+}
+
 // The place of a card in the pack, for a code that is known to be one.
 pub fn place_of(code: u8) -> u8
     requires { ⌜ isCard code ≡ true ⌝ }
@@ -148,16 +160,13 @@ impl Card {
         ensures { λ r. ⌜ codeTold r ≡ codeAsked self ⌝ }
     {
         let value = self.value;
-        let suit = self.suit;
         if value < 1 {
             return Coded::NoCode;
         }
         if 13 < value {
             return Coded::NoCode;
         }
-        let high = value * 16;
-        let low = suit.number();
-        Coded::Code(high + low)
+        Coded::Code(code_of(self))
     }
 
     pub fn decode(code: u8) -> Decoded

@@ -1,0 +1,4 @@
+-- Read these in this order.
+pub mod Move
+pub mod Record
+pub mod Play
