@@ -30,7 +30,7 @@ pub cell-is-card : (x : ℕ) → isCell x ≡ true → (x ≡ 255 → ⊥) → i
 unfolding isCell
 cell-is-card x e d = rw (ne-eqb x 255 d) at e
 
-held-append : (s t : List ℕ) → held (s ++ t) ≡ held s ++ held t
+pub held-append : (s t : List ℕ) → held (s ++ t) ≡ held s ++ held t
 unfolding held
 held-append [] t = refl
 held-append (x ∷ s) t = in-front (eqb x 255) (held-append s t)
