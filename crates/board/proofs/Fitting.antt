@@ -21,7 +21,7 @@ use Rattle.board.proofs.Soundness.{passed}
 use Rattle.board.proofs.Counting.{at-most-52}
 use Rattle.board.proofs.Records.{Laid}
 
-pile-cards : (suit n : ℕ) → suit < 4 → n ≤ 13 → all isCard (pile suit n) ≡ true
+pub pile-cards : (suit n : ℕ) → suit < 4 → n ≤ 13 → all isCard (pile suit n) ≡ true
 unfolding pile
 pile-cards suit n h b =
     let g : ℕ → ℕ = λ v. (v + 1) * 16 + suit in

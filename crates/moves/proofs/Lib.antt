@@ -1,3 +1,4 @@
 pub mod Records
 pub mod Saying
 pub mod Keeping
+pub mod Allowing
