@@ -61,7 +61,7 @@ allowed-is t m e0 =
       run = first (isRun (hand t m)) _ e5;
       fit = first (fitsColumn t (to m) (codeOf (card m))) _ e6;
       free = first (cellFree t (to m)) (nextHome t (to m) (codeOf (card m))) e7;
-      next = second (cellFree t (to m)) (nextHome t (to m) (codeOf (card m))) e7
+      next = second (cellFree t (to m)) (nextHome t (to m) (codeOf (card m))) e7;
     }
 
 -- ---- what is left at a place, and what comes to it
@@ -76,7 +76,7 @@ single (x ∷ []) e = refl
 single (x ∷ y ∷ l) e = absurd (let z : ⊥ = omega arith in z)
 
 -- a move of one card has the named card in its hand
-one-card : (t : Table) (m : Move) → Allowed t m → count m ≡ 1 → hand t m ≡ codeOf (card m) ∷ []
+pub one-card : (t : Table) (m : Move) → Allowed t m → count m ≡ 1 → hand t m ≡ codeOf (card m) ∷ []
 unfolding hand
 one-card t m a e =
     single (lastOf (count m) (there t (from m))) (last-length (count m) (there t (from m)) (a .enough) ∙ e)
@@ -132,7 +132,7 @@ pile-come s n x e =
 
 -- the named card, as a code
 module _ (c : Card) (value : isValue (c .value) ≡ true) where
-  code-high : codeOf c / 16 ≡ c .value
+  pub code-high : codeOf c / 16 ≡ c .value
   unfolding codeOf
   code-high = let s = suit-below (c .suit) in omega arith
 
@@ -140,7 +140,7 @@ module _ (c : Card) (value : isValue (c .value) ≡ true) where
   unfolding codeOf
   code-low = let s = suit-below (c .suit) in omega arith
 
-  next-code : (foundation : List ℕ) → homeTakes foundation (codeOf c) ≡ true → codeOf c ≡ (getD foundation (suitNumber (c .suit)) 0 + 1) * 16 + suitNumber (c .suit)
+  pub next-code : (foundation : List ℕ) → homeTakes foundation (codeOf c) ≡ true → codeOf c ≡ (getD foundation (suitNumber (c .suit)) 0 + 1) * 16 + suitNumber (c .suit)
   unfolding homeTakes
   next-code foundation e =
       let h = eqb-true (codeOf c / 16) (getD foundation (codeOf c % 16) 0 + 1) e in

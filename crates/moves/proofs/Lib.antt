@@ -2,3 +2,4 @@ pub mod Records
 pub mod Saying
 pub mod Keeping
 pub mod Allowing
+pub mod Fairness
