@@ -47,7 +47,7 @@ module _ (b : Board) (g : GoodColumns (b .counts) (b .tableau)) where
       listed-same (λ i. length (column i)) (λ i. getD (b .counts) i 0) 8 (column-length g) ∙ listed-back (b .counts) 8 (g .eight)
 
   -- the code at row j of column i, and 0 past the column's end
-  code-there : (i j : ℕ) → i < 8 → j < room → getD (column i) j 0 ≡ getD (b .tableau) (i * room + j) 0
+  pub code-there : (i j : ℕ) → i < 8 → j < room → getD (column i) j 0 ≡ getD (b .tableau) (i * room + j) 0
   code-there i j h l = by-side (decLt j (getD (b .counts) i 0))
     where
       by-side : Dec (j < getD (b .counts) i 0) → getD (column i) j 0 ≡ getD (b .tableau) (i * room + j) 0

@@ -1,0 +1,175 @@
+-- A record of which one column is changed shows the table with that column changed.
+use mathlib.Core.Path.{_≡_, refl, sym, ap, _∙_, subst}
+use mathlib.Core.Bool.{Bool, true, false}
+use mathlib.Core.List.{List, [], _∷_, _++_}
+use Prim.Native.Nat.{ℕ, zero, suc, _+_, _-_, _*_, _/_, _%_, _<_, _≤_}
+use native.Mathlib.Omega.{arith}
+use native.Mathlib.Decide.{ℕ-discrete, decLt}
+use borrow.Author.Count.{below-more}
+use lib.ListN.{length, getD, take, drop, set, length-set, length-append, length-take, List·getD-eq-default, List·getD-append}
+use lib.Seq.{ext-getD, getD-set-same, getD-set-other, getD-append-seam, getD-take}
+use Rattle.card.specs.Words.{all, listed}
+use Rattle.card.specs.Card.{isCard}
+use Rattle.card.proofs.Words.{all-at, all-by, all-append, both, length-listed, getD-listed}
+use Rattle.board.specs.Table.{Table}
+use Rattle.board.specs.Record.{room, columnAt, shown}
+use Rattle.board.specs.Inner.{GoodColumns}
+use Rattle.board.specs.declared.Board.{Board}
+use Rattle.board.proofs.Soundness.{column-length, column-code}
+use Rattle.questions.proofs.Asking.{shown-column}
+use Rattle.moves.specs.Move.{Place, column}
+use Rattle.moves.specs.Play.{put, there, othersOf}
+use Rattle.play.specs.Change.{Becomes, Cleared}
+
+one-card : (x : ℕ) → isCard x ≡ true → all isCard (x ∷ []) ≡ true
+unfolding all
+one-card x e = both e refl
+
+module _ {counts tableau : List ℕ} (g : GoodColumns counts tableau) (i : ℕ) (h : i < 8) (l : List ℕ) (short : length l ≤ room) (cards : all isCard l ≡ true)
+    (n : ℕ) (many : n ≡ length l) (T : List ℕ) (full : length T ≡ 8 * room)
+    (here : (j : ℕ) → j < room → getD T (i * room + j) 0 ≡ getD l j 0)
+    (others : (k j : ℕ) → k < 8 → (k ≡ i → ⊥) → j < room → getD T (k * room + j) 0 ≡ getD tableau (k * room + j) 0) where
+  count-here : getD (set counts i n) i 0 ≡ length l
+  count-here = getD-set-same counts i n 0 (let e = g .eight in omega arith) ∙ many
+
+  count-other : (k : ℕ) → (k ≡ i → ⊥) → getD (set counts i n) k 0 ≡ getD counts k 0
+  count-other k d = getD-set-other counts i k n 0 d
+
+  pub good-changed : GoodColumns (set counts i n) T
+  good-changed =
+      record {
+        eight = length-set counts i n ∙ g .eight;
+        full = full;
+        within = λ k b. within-by k b (ℕ-discrete k i);
+        codes = λ k j b c. codes-by k j b c (ℕ-discrete k i);
+        spare = λ k j b c d. spare-by k j b c d (ℕ-discrete k i);
+      }
+    where
+      at-i : (k : ℕ) → k ≡ i → getD (set counts i n) k 0 ≡ length l
+      at-i k q = ap (λ (m : ℕ). getD (set counts i n) m 0) q ∙ count-here
+
+      within-by : (k : ℕ) → k < 8 → Dec (k ≡ i) → getD (set counts i n) k 0 ≤ room
+      within-by k b (yes q) = let e = at-i k q in omega arith
+      within-by k b (no d) = let e = count-other k d in let w = g .within k b in omega arith
+
+      codes-by : (k j : ℕ) → k < 8 → j < getD (set counts i n) k 0 → Dec (k ≡ i) → isCard (getD T (k * room + j) 0) ≡ true
+      codes-by k j b c (yes q) =
+          let e = at-i k q in
+          subst (λ (m : ℕ). isCard (getD T (m * room + j) 0) ≡ true) (sym q)
+          (subst (λ (x : ℕ). isCard x ≡ true) (sym (here j (omega arith))) (all-at isCard l cards j (omega arith)))
+      codes-by k j b c (no d) =
+          let e = count-other k d in
+          let w = g .within k b in
+          subst (λ (x : ℕ). isCard x ≡ true) (sym (others k j b d (omega arith))) (g .codes k j b (omega arith))
+
+      spare-by : (k j : ℕ) → k < 8 → getD (set counts i n) k 0 ≤ j → j < room → Dec (k ≡ i) → getD T (k * room + j) 0 ≡ 0
+      spare-by k j b c d (yes q) =
+          let e = at-i k q in
+          ap (λ (m : ℕ). getD T (m * room + j) 0) q ∙ here j d ∙ List·getD-eq-default l 0 (omega arith)
+      spare-by k j b c d (no z) = let e = count-other k z in others k j b z d ∙ g .spare k j b (omega arith) d
+
+  column-here : columnAt (set counts i n) T i ≡ l
+  column-here =
+      let e = column-length good-changed i h in
+      let c = count-here in
+      ext-getD 0 (columnAt (set counts i n) T i) l (e ∙ c)
+      (λ j b. column-code (set counts i n) T i j (omega arith) ∙ here j (omega arith))
+
+  column-other : (k : ℕ) → k < 8 → (k ≡ i → ⊥) → columnAt (set counts i n) T k ≡ columnAt counts tableau k
+  column-other k b d =
+      let e = column-length good-changed k b in
+      let c = count-other k d in
+      let f = column-length g k b in
+      let w = g .within k b in
+      ext-getD 0 (columnAt (set counts i n) T k) (columnAt counts tableau k) (omega arith)
+      (λ j m. column-code (set counts i n) T k j (omega arith) ∙ others k j b d (omega arith) ∙ sym (column-code counts tableau k j (omega arith)))
+
+  pub columns-changed : listed 8 (columnAt (set counts i n) T) ≡ set (listed 8 (columnAt counts tableau)) i l
+  columns-changed =
+      let a = length-listed (columnAt (set counts i n) T) 8 in
+      let c = length-listed (columnAt counts tableau) 8 in
+      ext-getD [] (listed 8 (columnAt (set counts i n) T)) (set (listed 8 (columnAt counts tableau)) i l)
+      (a ∙ sym (length-set (listed 8 (columnAt counts tableau)) i l ∙ c))
+      (λ k b. getD-listed (columnAt (set counts i n) T) 8 k [] (omega arith) ∙ by-side k (omega arith) (ℕ-discrete k i))
+    where
+      by-side : (k : ℕ) → k < 8 → Dec (k ≡ i) → columnAt (set counts i n) T k ≡ getD (set (listed 8 (columnAt counts tableau)) i l) k []
+      by-side k b (yes q) =
+          ap (columnAt (set counts i n) T) q ∙ column-here
+          ∙ sym (ap (λ (m : ℕ). getD (set (listed 8 (columnAt counts tableau)) i l) m []) q
+          ∙ getD-set-same (listed 8 (columnAt counts tableau)) i l [] (let c = length-listed (columnAt counts tableau) 8 in omega arith))
+      by-side k b (no d) =
+          column-other k b d
+          ∙ sym (getD-set-other (listed 8 (columnAt counts tableau)) i k l [] d ∙ getD-listed (columnAt counts tableau) 8 k [] b)
+
+-- the record with that column
+module _ (b : Board) (g : GoodColumns (b .counts) (b .tableau)) (i : ℕ) (h : i < 8) (l : List ℕ) (short : length l ≤ room) (cards : all isCard l ≡ true)
+    (n : ℕ) (many : n ≡ length l) (T : List ℕ) (full : length T ≡ 8 * room)
+    (here : (j : ℕ) → j < room → getD T (i * room + j) 0 ≡ getD l j 0)
+    (others : (k j : ℕ) → k < 8 → (k ≡ i → ⊥) → j < room → getD T (k * room + j) 0 ≡ getD (b .tableau) (k * room + j) 0) where
+  pub becomes-column : Becomes (record { cells = b .cells; foundation = b .foundation; counts = set (b .counts) i n; tableau = T }) (put (shown b) (column i) l)
+  unfolding shown
+  becomes-column =
+      record {
+        shows = ap (λ (c : List (List ℕ)). record { cells = b .cells; foundation = b .foundation; columns = c })
+            (columns-changed g i h l short cards n many T full here others);
+        good = good-changed g i h l short cards n many T full here others;
+      }
+
+-- ---- one card more on a column
+
+module _ (b : Board) (g : GoodColumns (b .counts) (b .tableau)) (i : ℕ) (h : i < 8) (less : getD (b .counts) i 0 < 52)
+    (code : ℕ) (isc : isCard code ≡ true) (w : ℕ) (e : w ≡ getD (b .counts) i 0) where
+  abbrev col : List ℕ
+  col = columnAt (b .counts) (b .tableau) i
+
+  abbrev laid : List ℕ
+  laid = set (b .tableau) (i * 52 + w) code
+
+  long : length (col ++ (code ∷ [])) ≡ w + 1
+  long = length-append col (code ∷ []) ∙ (let n = column-length g i h in omega arith)
+
+  here-laid : (j : ℕ) → j < room → getD laid (i * room + j) 0 ≡ getD (col ++ (code ∷ [])) j 0
+  here-laid j b0 = by-side (ℕ-discrete j w) (decLt j w)
+    where
+      by-side : Dec (j ≡ w) → Dec (j < w) → getD laid (i * room + j) 0 ≡ getD (col ++ (code ∷ [])) j 0
+      by-side (yes q) d =
+          ap (λ (k : ℕ). getD laid (i * room + k) 0) q ∙ getD-set-same (b .tableau) (i * 52 + w) code 0 (let f = g .full in omega arith)
+          ∙ sym (ap (λ (k : ℕ). getD (col ++ (code ∷ [])) k 0) (q ∙ e ∙ sym (column-length g i h)) ∙ getD-append-seam col code [] 0)
+      by-side (no q) (yes d) =
+          getD-set-other (b .tableau) (i * 52 + w) (i * room + j) code 0 (λ z. q (let y : j ≡ w = omega arith in y))
+          ∙ sym (List·getD-append col (code ∷ []) 0 j (let n = column-length g i h in omega arith) ∙ column-code (b .counts) (b .tableau) i j (omega arith))
+      by-side (no q) (no d) =
+          getD-set-other (b .tableau) (i * 52 + w) (i * room + j) code 0 (λ z. q (let y : j ≡ w = omega arith in y))
+          ∙ g .spare i j h (omega arith) b0
+          ∙ sym (List·getD-eq-default (col ++ (code ∷ [])) 0 (let n = long in omega arith))
+
+  pub becomes-laid : Becomes (record { cells = b .cells; foundation = b .foundation; counts = set (b .counts) i (getD (b .counts) i 0 + 1); tableau = laid })
+      (put (shown b) (column i) (there (shown b) (column i) ++ (code ∷ [])))
+  becomes-laid =
+      subst (λ (c : List ℕ). Becomes (record { cells = b .cells; foundation = b .foundation; counts = set (b .counts) i (getD (b .counts) i 0 + 1); tableau = laid })
+      (put (shown b) (column i) (c ++ (code ∷ []))))
+      (shown-column b i h)
+      (becomes-column b g i h (col ++ (code ∷ [])) (let n = long in omega arith) (all-append isCard col (code ∷ []) ∙ both column-cards (one-card code isc))
+      (getD (b .counts) i 0 + 1) (let n = long in omega arith) laid (length-set (b .tableau) (i * 52 + w) code ∙ g .full) here-laid
+      (λ k j c d f. getD-set-other (b .tableau) (i * 52 + w) (k * room + j) code 0 (λ z. d (let y : k ≡ i = omega arith in y))))
+    where
+      column-cards : all isCard col ≡ true
+      column-cards = all-by isCard col (λ j m. let n = column-length g i h in
+          subst (λ (x : ℕ). isCard x ≡ true) (sym (column-code (b .counts) (b .tableau) i j (omega arith))) (g .codes i j h (omega arith)))
+
+-- ---- zeros, place by place
+
+module _ (old : List ℕ) (at : ℕ) where
+  pub cleared-none : Cleared old old at 0
+  cleared-none = record { long = refl; zero = λ k h. omega arith; below = λ p h. refl; above = λ p h. refl }
+
+  pub cleared-more : {new : List ℕ} (n : ℕ) → Cleared old new at n → at + n < length old → Cleared old (set new (at + n) 0) at (n + 1)
+  cleared-more {new} n c h =
+      record {
+        long = length-set new (at + n) 0 ∙ c .long;
+        zero = below-more (λ (k : ℕ). getD (set new (at + n) 0) (at + k) 0 ≡ 0) n
+            (λ k l. getD-set-other new (at + n) (at + k) 0 0 (λ z. let y : ⊥ = omega arith in y) ∙ c .zero k l)
+            (getD-set-same new (at + n) 0 0 (let e = c .long in omega arith));
+        below = λ p l. getD-set-other new (at + n) p 0 0 (λ z. let y : ⊥ = omega arith in y) ∙ c .below p l;
+        above = λ p l. getD-set-other new (at + n) p 0 0 (λ z. let y : ⊥ = omega arith in y) ∙ c .above p (omega arith);
+      }

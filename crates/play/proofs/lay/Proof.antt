@@ -1,0 +1,43 @@
+-- What `lay` leaves to be shown: one column is changed by one card.
+use Rattle.play.proofs.Changing.{becomes-laid}
+use borrow.Author.Needs.{needs}
+use Rattle.play.proofs.lay.Statement.{statement}
+use Rattle.play.proofs.lay.Tie as tie
+
+element-copy-out-count : tie.Need-element-copy-out-count
+element-copy-out-count c = search needs
+
+mul-first : tie.Need-mul-first
+mul-first c = search needs
+
+wide-requires : tie.Need-wide-requires
+wide-requires c κs = search needs
+
+add-at : tie.Need-add-at
+add-at c = search needs
+
+element-write-r : tie.Need-element-write-r
+element-write-r c = search needs
+
+add-r : tie.Need-add-r
+add-r c = search needs
+
+element-write-r-2 : tie.Need-element-write-r-2
+element-write-r-2 c = search needs
+
+returns : tie.Need-returns
+returns c =
+    becomes-laid (c .before .before .args .t1) (c .before .before .pre .0) (c .before .before .args .i) (c .before .before .pre .1 .0) (c .before .before .pre .1 .1 .0) (c .before .before .args .code) (c .before .before .pre .1 .1 .1) (c .wide .result) (c .wide .ensures)
+
+pub lay-spec : {M : Type 1} → statement M
+lay-spec =
+    tie.close
+    (tie.spec
+    element-copy-out-count
+    mul-first
+    wide-requires
+    add-at
+    element-write-r
+    add-r
+    element-write-r-2
+    returns)

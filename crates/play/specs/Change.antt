@@ -1,0 +1,21 @@
+-- What the inner functions make of a record: it shows a given table, and its columns are good.
+use mathlib.Core.Path.{_≡_}
+use mathlib.Core.List.{List}
+use Prim.Native.Nat.{ℕ, _+_, _≤_, _<_}
+use lib.ListN.{length, getD}
+use Rattle.board.specs.Table.{Table}
+use Rattle.board.specs.Record.{shown}
+use Rattle.board.specs.Inner.{GoodColumns}
+use Rattle.board.specs.declared.Board.{Board}
+
+-- the record shows the table, with good columns
+pub record Becomes (r : Board) (t : Table) : Type 0 where
+  pub shows : shown r ≡ t
+  pub good : GoodColumns (r .counts) (r .tableau)
+
+-- n places from `at` are zero, the others as they were
+pub record Cleared (old new : List ℕ) (at n : ℕ) : Type 0 where
+  pub long : length new ≡ length old
+  pub zero : (k : ℕ) → k < n → getD new (at + k) 0 ≡ 0
+  pub below : (p : ℕ) → p < at → getD new p 0 ≡ getD old p 0
+  pub above : (p : ℕ) → at + n ≤ p → getD new p 0 ≡ getD old p 0
