@@ -6,11 +6,11 @@ use Prim.Native.Nat.{ℕ, zero, suc, _+_, _-_, _*_, _/_, _%_, _<_, _≤_}
 use native.Mathlib.Omega.{arith}
 use native.Mathlib.Decide.{ℕ-discrete, decLt}
 use borrow.Author.Count.{below-more}
-use lib.ListN.{length, getD, take, drop, set, length-set, length-append, length-take, List·getD-eq-default, List·getD-append}
-use lib.Seq.{ext-getD, getD-set-same, getD-set-other, getD-append-seam, getD-take}
+use lib.ListN.{length, getD, take, drop, set, length-set, length-append, length-take, length-drop, take-append-drop, List·getD-eq-default, List·getD-append}
+use lib.Seq.{ext-getD, getD-set-same, getD-set-other, getD-append-seam, getD-append-add, getD-take, getD-drop}
 use Rattle.card.specs.Words.{all, listed}
 use Rattle.card.specs.Card.{isCard}
-use Rattle.card.proofs.Words.{all-at, all-by, all-append, both, length-listed, getD-listed}
+use Rattle.card.proofs.Words.{first, second, all-at, all-by, all-append, both, length-listed, getD-listed}
 use Rattle.board.specs.Table.{Table}
 use Rattle.board.specs.Record.{room, columnAt, shown}
 use Rattle.board.specs.Inner.{GoodColumns}
@@ -18,8 +18,8 @@ use Rattle.board.specs.declared.Board.{Board}
 use Rattle.board.proofs.Soundness.{column-length, column-code}
 use Rattle.questions.proofs.Asking.{shown-column}
 use Rattle.moves.specs.Move.{Place, column}
-use Rattle.moves.specs.Play.{put, there, othersOf}
-use Rattle.play.specs.Change.{Becomes, Cleared}
+use Rattle.moves.specs.Play.{put, there, othersOf, lastOf}
+use Rattle.play.specs.Change.{Becomes, Cleared, Apart, Copied}
 
 one-card : (x : ℕ) → isCard x ≡ true → all isCard (x ∷ []) ≡ true
 unfolding all
@@ -173,3 +173,154 @@ module _ (old : List ℕ) (at : ℕ) where
         below = λ p l. getD-set-other new (at + n) p 0 0 (λ z. let y : ⊥ = omega arith in y) ∙ c .below p l;
         above = λ p l. getD-set-other new (at + n) p 0 0 (λ z. let y : ⊥ = omega arith in y) ∙ c .above p (omega arith);
       }
+
+-- ---- a copy, place by place
+
+module _ (old : List ℕ) (from to : ℕ) where
+  pub copied-none : Copied old old from to 0
+  copied-none = record { long = refl; same = λ k h. omega arith; below = λ p h. refl; above = λ p h. refl }
+
+  -- what is read is still what stood there at first
+  unread : {new : List ℕ} (m n : ℕ) → Apart from to m → Copied old new from to n → n < m → getD new (from + n) 0 ≡ getD old (from + n) 0
+  unread {new} m n a c h = by-side (decLt (from + n) to) (decLt (from + n) (to + n))
+    where
+      by-side : Dec (from + n < to) → Dec (from + n < to + n) → getD new (from + n) 0 ≡ getD old (from + n) 0
+      by-side (yes l) d = c .below (from + n) l
+      by-side (no l) (no d) = c .above (from + n) (omega arith)
+      by-side (no l) (yes d) = absurd (a .never n (from + n - to) h (omega arith) (omega arith))
+
+  pub copied-more : {new : List ℕ} (m n : ℕ) → Apart from to m → Copied old new from to n → n < m → to + n < length old
+      → Copied old (set new (to + n) (getD new (from + n) 0)) from to (n + 1)
+  copied-more {new} m n a c h l =
+      record {
+        long = length-set new (to + n) _ ∙ c .long;
+        same = below-more (λ (k : ℕ). getD (set new (to + n) (getD new (from + n) 0)) (to + k) 0 ≡ getD old (from + k) 0) n
+            (λ k b. getD-set-other new (to + n) (to + k) _ 0 (λ z. let y : ⊥ = omega arith in y) ∙ c .same k b)
+            (getD-set-same new (to + n) _ 0 (let e = c .long in omega arith) ∙ unread m n a c h);
+        below = λ p b. getD-set-other new (to + n) p _ 0 (λ z. let y : ⊥ = omega arith in y) ∙ c .below p b;
+        above = λ p b. getD-set-other new (to + n) p _ 0 (λ z. let y : ⊥ = omega arith in y) ∙ c .above p (omega arith)
+      }
+
+-- ---- the top n cards gone
+
+column-cards : {counts tableau : List ℕ} → GoodColumns counts tableau → (i : ℕ) → i < 8 → all isCard (columnAt counts tableau i) ≡ true
+column-cards {counts} {tableau} g i h =
+    all-by isCard (columnAt counts tableau i)
+    (λ j m. let n = column-length g i h in
+      subst (λ (x : ℕ). isCard x ≡ true) (sym (column-code counts tableau i j (omega arith))) (g .codes i j h (omega arith)))
+
+module _ (b : Board) (g : GoodColumns (b .counts) (b .tableau)) (i : ℕ) (h : i < 8) (n : ℕ) (enough : n ≤ getD (b .counts) i 0)
+    (w : ℕ) (e : w ≡ getD (b .counts) i 0) (T : List ℕ) (c : Cleared (b .tableau) T (i * 52 + (w - n)) n) where
+  abbrev col′ : List ℕ
+  col′ = columnAt (b .counts) (b .tableau) i
+
+  others-long : length (othersOf n col′) ≡ w - n
+  unfolding othersOf
+  others-long = length-take (length col′ - n) col′ ∙ (let l = column-length g i h in omega arith)
+
+  here-left : (j : ℕ) → j < room → getD T (i * room + j) 0 ≡ getD (othersOf n col′) j 0
+  unfolding othersOf
+  here-left j b0 = by-side (decLt j (w - n)) (decLt j w)
+    where
+      by-side : Dec (j < w - n) → Dec (j < w) → getD T (i * room + j) 0 ≡ getD (take (length col′ - n) col′) j 0
+      by-side (yes l) d =
+          c .below (i * room + j) (omega arith)
+          ∙ sym (getD-take (length col′ - n) col′ j 0 (let m = column-length g i h in omega arith) ∙ column-code (b .counts) (b .tableau) i j (omega arith))
+      by-side (no l) (yes d) =
+          ap (λ (p : ℕ). getD T p 0) (let q : i * room + j ≡ i * 52 + (w - n) + (j - (w - n)) = omega arith in q)
+          ∙ c .zero (j - (w - n)) (omega arith)
+          ∙ sym (List·getD-eq-default (take (length col′ - n) col′) 0 (let o = length-take (length col′ - n) col′ in let m = column-length g i h in omega arith))
+      by-side (no l) (no d) =
+          c .above (i * room + j) (omega arith) ∙ g .spare i j h (omega arith) b0
+          ∙ sym (List·getD-eq-default (take (length col′ - n) col′) 0 (let o = length-take (length col′ - n) col′ in let m = column-length g i h in omega arith))
+
+  elsewhere-left : (k j : ℕ) → k < 8 → (k ≡ i → ⊥) → j < room → getD T (k * room + j) 0 ≡ getD (b .tableau) (k * room + j) 0
+  elsewhere-left k j a d f = let within = g .within i h in by-side (decLt k i)
+    where
+      by-side : Dec (k < i) → getD T (k * room + j) 0 ≡ getD (b .tableau) (k * room + j) 0
+      by-side (yes l) = let within = g .within i h in c .below (k * room + j) (omega arith)
+      by-side (no l) = let within = g .within i h in c .above (k * room + j) (let m : i < k = omega arith in omega arith)
+
+  others-cards : all isCard (othersOf n col′) ≡ true
+  unfolding othersOf
+  others-cards =
+      first (all isCard (take (length col′ - n) col′)) (all isCard (drop (length col′ - n) col′))
+      (sym (all-append isCard (take (length col′ - n) col′) (drop (length col′ - n) col′)) ∙ ap (all isCard) (take-append-drop (length col′ - n) col′) ∙ column-cards g i h)
+
+  pub becomes-dropped : Becomes (record { cells = b .cells; foundation = b .foundation; counts = set (b .counts) i (w - n); tableau = T })
+      (put (shown b) (column i) (othersOf n (there (shown b) (column i))))
+  becomes-dropped =
+      subst (λ (l : List ℕ). Becomes (record { cells = b .cells; foundation = b .foundation; counts = set (b .counts) i (w - n); tableau = T })
+        (put (shown b) (column i) (othersOf n l)))
+      (shown-column b i h)
+      (becomes-column b g i h (othersOf n col′) (let o = others-long in let m = g .within i h in omega arith) others-cards (w - n) (sym others-long) T
+      (c .long ∙ g .full) here-left elsewhere-left)
+
+-- ---- a run once more on another column
+
+module _ (b : Board) (g : GoodColumns (b .counts) (b .tableau)) (s d : ℕ) (hs : s < 8) (hd : d < 8) (n : ℕ) (enough : n ≤ getD (b .counts) s 0)
+    (fits : getD (b .counts) d 0 + n ≤ 52) (v : ℕ) (ev : v ≡ getD (b .counts) s 0) (w : ℕ) (ew : w ≡ getD (b .counts) d 0)
+    (T : List ℕ) (c : Copied (b .tableau) T (s * 52 + (v - n)) (d * 52 + w) n) where
+  abbrev source : List ℕ
+  source = columnAt (b .counts) (b .tableau) s
+
+  abbrev target : List ℕ
+  target = columnAt (b .counts) (b .tableau) d
+
+  run-long : length (lastOf n source) ≡ n
+  unfolding lastOf
+  run-long = length-drop (length source - n) source ∙ (let l = column-length g s hs in omega arith)
+
+  both-long : length (target ++ lastOf n source) ≡ w + n
+  both-long = length-append target (lastOf n source) ∙ (let r = run-long in let l = column-length g d hd in omega arith)
+
+  run-code : (k : ℕ) → k < n → getD (lastOf n source) k 0 ≡ getD (b .tableau) (s * 52 + (v - n) + k) 0
+  unfolding lastOf
+  run-code k l =
+      let m = column-length g s hs in
+      getD-drop (length source - n) source k 0
+      ∙ column-code (b .counts) (b .tableau) s (length source - n + k) (omega arith)
+      ∙ ap (λ (p : ℕ). getD (b .tableau) p 0) (let q : s * room + (length source - n + k) ≡ s * 52 + (v - n) + k = omega arith in q)
+
+  here-run : (j : ℕ) → j < room → getD T (d * room + j) 0 ≡ getD (target ++ lastOf n source) j 0
+  here-run j b0 = by-side (decLt j w) (decLt j (w + n))
+    where
+      by-side : Dec (j < w) → Dec (j < w + n) → getD T (d * room + j) 0 ≡ getD (target ++ lastOf n source) j 0
+      by-side (yes l) a =
+          c .below (d * room + j) (omega arith)
+          ∙ sym (List·getD-append target (lastOf n source) 0 j (let m = column-length g d hd in omega arith) ∙ column-code (b .counts) (b .tableau) d j (omega arith))
+      by-side (no l) (yes a) =
+          let m = column-length g d hd in
+          ap (λ (p : ℕ). getD T p 0) (let q : d * room + j ≡ d * 52 + w + (j - w) = omega arith in q)
+          ∙ c .same (j - w) (omega arith) ∙ sym (run-code (j - w) (omega arith))
+          ∙ sym (ap (λ (p : ℕ). getD (target ++ lastOf n source) p 0) (let q : j ≡ length target + (j - w) = omega arith in q)
+            ∙ getD-append-add target (lastOf n source) (j - w) 0)
+      by-side (no l) (no a) =
+          c .above (d * room + j) (omega arith) ∙ g .spare d j hd (omega arith) b0
+          ∙ sym (List·getD-eq-default (target ++ lastOf n source) 0 (let o = both-long in omega arith))
+
+  elsewhere-run : (k j : ℕ) → k < 8 → (k ≡ d → ⊥) → j < room → getD T (k * room + j) 0 ≡ getD (b .tableau) (k * room + j) 0
+  elsewhere-run k j a z f = by-side (decLt k d)
+    where
+      by-side : Dec (k < d) → getD T (k * room + j) 0 ≡ getD (b .tableau) (k * room + j) 0
+      by-side (yes l) = c .below (k * room + j) (omega arith)
+      by-side (no l) = c .above (k * room + j) (let m : d < k = omega arith in omega arith)
+
+  run-cards : all isCard (lastOf n source) ≡ true
+  unfolding lastOf
+  run-cards =
+      second (all isCard (take (length source - n) source)) (all isCard (drop (length source - n) source))
+      (sym (all-append isCard (take (length source - n) source) (drop (length source - n) source)) ∙ ap (all isCard) (take-append-drop (length source - n) source) ∙ column-cards g s hs)
+
+  pub becomes-run : Becomes (record { cells = b .cells; foundation = b .foundation; counts = set (b .counts) d (w + n); tableau = T })
+      (put (shown b) (column d) (there (shown b) (column d) ++ lastOf n (there (shown b) (column s))))
+  becomes-run =
+      subst (λ (l : List ℕ). Becomes (record { cells = b .cells; foundation = b .foundation; counts = set (b .counts) d (w + n); tableau = T })
+        (put (shown b) (column d) (l ++ lastOf n (there (shown b) (column s)))))
+      (shown-column b d hd)
+      (subst (λ (l : List ℕ). Becomes (record { cells = b .cells; foundation = b .foundation; counts = set (b .counts) d (w + n); tableau = T })
+        (put (shown b) (column d) (target ++ lastOf n l)))
+      (shown-column b s hs)
+      (becomes-column b g d hd (target ++ lastOf n source) (let o = both-long in omega arith)
+      (all-append isCard target (lastOf n source) ∙ both (column-cards g d hd) run-cards) (w + n) (sym both-long) T
+      (c .long ∙ g .full) here-run elsewhere-run))

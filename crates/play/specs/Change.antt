@@ -19,3 +19,14 @@ pub record Cleared (old new : List ℕ) (at n : ℕ) : Type 0 where
   pub zero : (k : ℕ) → k < n → getD new (at + k) 0 ≡ 0
   pub below : (p : ℕ) → p < at → getD new p 0 ≡ getD old p 0
   pub above : (p : ℕ) → at + n ≤ p → getD new p 0 ≡ getD old p 0
+
+-- two stretches of n places that share none
+pub record Apart (from to n : ℕ) : Type 0 where
+  pub never : (k j : ℕ) → k < n → j < n → from + k ≡ to + j → ⊥
+
+-- n places from `to` hold what stood from `from` on, the others what they held
+pub record Copied (old new : List ℕ) (from to n : ℕ) : Type 0 where
+  pub long : length new ≡ length old
+  pub same : (k : ℕ) → k < n → getD new (to + k) 0 ≡ getD old (from + k) 0
+  pub below : (p : ℕ) → p < to → getD new p 0 ≡ getD old p 0
+  pub above : (p : ℕ) → to + n ≤ p → getD new p 0 ≡ getD old p 0

@@ -8,8 +8,8 @@ ghost use Rattle.card.specs.Card.{isCard};
 ghost use Rattle.board.specs.Record.{shown, columnAt};
 ghost use Rattle.board.specs.Inner.{GoodColumns};
 ghost use Rattle.moves.specs.Move.{column};
-ghost use Rattle.moves.specs.Play.{put, there, othersOf};
-ghost use Rattle.play.specs.Change.{Becomes, Cleared};
+ghost use Rattle.moves.specs.Play.{put, there, othersOf, lastOf};
+ghost use Rattle.play.specs.Change.{Becomes, Cleared, Apart, Copied};
 use board::Board;
 
 // One card more on a column.
@@ -40,4 +40,59 @@ fn clear(tableau: &mut [u8; 416], at: usize, n: usize)
         tableau[at + k] = 0;
         k += 1;
     }
+}
+
+// Copy n places to others, which share none with them.
+fn copy(tableau: &mut [u8; 416], from: usize, to: usize, n: usize)
+    requires { ⌜ length (now tableau) ≡ 416 ⌝ }
+    requires { ⌜ from + n ≤ 416 ⌝ }
+    requires { ⌜ to + n ≤ 416 ⌝ }
+    requires { ⌜ Apart from to n ⌝ }
+    ensures { λ r. ⌜ Copied (now (tableau .entry)) (now (tableau .exit)) from to n ⌝ }
+{
+    let mut k = 0;
+    while k < n {
+        let code = tableau[from + k];
+        tableau[to + k] = code;
+        k += 1;
+    }
+}
+
+// The top n cards of a column are gone.
+fn drop_top(b: Board, i: usize, n: usize) -> Board
+    requires { ⌜ GoodColumns (b .counts) (b .tableau) ⌝ }
+    requires { ⌜ i < 8 ⌝ }
+    requires { ⌜ n ≤ getD (b .counts) i 0 ⌝ }
+    ensures { λ r. ⌜ Becomes r (put (shown b) (column i) (othersOf n (there (shown b) (column i)))) ⌝ }
+{
+    let left = card::wide(b.counts[i]) - n;
+    let first = i * 52;
+    let at = first + left;
+    let mut r = b;
+    clear(&mut r.tableau, at, n);
+    r.counts[i] = left as u8;
+    r
+}
+
+// The top n cards of a column, once more on another.
+fn put_run(b: Board, source: usize, destination: usize, n: usize) -> Board
+    requires { ⌜ GoodColumns (b .counts) (b .tableau) ⌝ }
+    requires { ⌜ source < 8 ⌝ }
+    requires { ⌜ destination < 8 ⌝ }
+    requires { ⌜ (source ≡ destination → ⊥) ⌝ }
+    requires { ⌜ n ≤ getD (b .counts) source 0 ⌝ }
+    requires { ⌜ getD (b .counts) destination 0 + n ≤ 52 ⌝ }
+    ensures { λ r. ⌜ Becomes r (put (shown b) (column destination) (there (shown b) (column destination) ++ lastOf n (there (shown b) (column source)))) ⌝ }
+{
+    let deepest = card::wide(b.counts[source]) - n;
+    let first = source * 52;
+    let from = first + deepest;
+    let count = card::wide(b.counts[destination]);
+    let start = destination * 52;
+    let to = start + count;
+    let mut r = b;
+    copy(&mut r.tableau, from, to, n);
+    let more = count + n;
+    r.counts[destination] = more as u8;
+    r
 }
