@@ -122,8 +122,8 @@ shape-of b piles eight full within spare =
     omega arith)))))
 
 module _ {b : Board} (s : Sound b) where
-  good-shape-of : shapely b ≡ true
-  good-shape-of =
+  pub sound-shape : shapely b ≡ true
+  sound-shape =
       let c = s .inColumns in
       shape-of b (s .inPiles) (c .eight) (c .full) (c .within) (c .spare)
 
@@ -144,7 +144,7 @@ module _ {b : Board} (s : Sound b) where
   unfolding examined judged
   sound-fine =
       rw (
-        good-shape-of,
+        sound-shape,
         good-codes-of,
         none-twice (cardsOn (shown b)) (λ k h. let o = s .once k h in omega arith),
         none-missing (cardsOn (shown b)) (λ k h. let o = s .once k h in omega arith),

@@ -17,8 +17,8 @@ use Rattle.board.specs.Inner.{GoodColumns}
 use Rattle.board.specs.declared.Board.{Board}
 use Rattle.board.proofs.Soundness.{column-length, column-code}
 use Rattle.questions.proofs.Asking.{shown-column}
-use Rattle.moves.specs.Move.{Place, column}
-use Rattle.moves.specs.Play.{put, there, othersOf, lastOf}
+use Rattle.moves.specs.Move.{Place, column, cell, home}
+use Rattle.moves.specs.Play.{put, there, othersOf, lastOf, cellCode}
 use Rattle.play.specs.Change.{Becomes, Cleared, Apart, Copied}
 
 one-card : (x : ℕ) → isCard x ≡ true → all isCard (x ∷ []) ≡ true
@@ -324,3 +324,18 @@ module _ (b : Board) (g : GoodColumns (b .counts) (b .tableau)) (s d : ℕ) (hs 
       (becomes-column b g d hd (target ++ lastOf n source) (let o = both-long in omega arith)
       (all-append isCard target (lastOf n source) ∙ both (column-cards g d hd) run-cards) (w + n) (sym both-long) T
       (c .long ∙ g .full) here-run elsewhere-run))
+
+-- ---- a cell or a foundation changed
+
+module _ (b : Board) (g : GoodColumns (b .counts) (b .tableau)) where
+  pub becomes-cell : (i code : ℕ) (l : List ℕ) → code ≡ cellCode l
+      → Becomes (record { cells = set (b .cells) i code; foundation = b .foundation; counts = b .counts; tableau = b .tableau }) (put (shown b) (cell i) l)
+  unfolding shown
+  becomes-cell i code l e =
+      record { shows = ap (λ (x : ℕ). record { cells = set (b .cells) i x; foundation = b .foundation; columns = listed 8 (columnAt (b .counts) (b .tableau)) }) e; good = g }
+
+  pub becomes-home : (s n : ℕ) (l : List ℕ) → n ≡ length l
+      → Becomes (record { cells = b .cells; foundation = set (b .foundation) s n; counts = b .counts; tableau = b .tableau }) (put (shown b) (home s) l)
+  unfolding shown
+  becomes-home s n l e =
+      record { shows = ap (λ (x : ℕ). record { cells = b .cells; foundation = set (b .foundation) s x; columns = listed 8 (columnAt (b .counts) (b .tableau)) }) e; good = g }

@@ -5,8 +5,12 @@ use Prim.Native.Nat.{ℕ, _+_, _≤_, _<_}
 use lib.ListN.{length, getD}
 use Rattle.board.specs.Table.{Table}
 use Rattle.board.specs.Record.{shown}
-use Rattle.board.specs.Inner.{GoodColumns}
+use Rattle.board.specs.Inner.{GoodColumns, Sound}
 use Rattle.board.specs.declared.Board.{Board}
+use Rattle.moves.specs.Move.{sayable}
+use Rattle.moves.specs.Play.{allowed}
+use Rattle.moves.specs.declared.Move.{Move}
+use mathlib.Core.Bool.{true}
 
 -- the record shows the table, with good columns
 pub record Becomes (r : Board) (t : Table) : Type 0 where
@@ -30,3 +34,9 @@ pub record Copied (old new : List ℕ) (from to n : ℕ) : Type 0 where
   pub same : (k : ℕ) → k < n → getD new (to + k) 0 ≡ getD old (from + k) 0
   pub below : (p : ℕ) → p < to → getD new p 0 ≡ getD old p 0
   pub above : (p : ℕ) → to + n ≤ p → getD new p 0 ≡ getD old p 0
+
+-- a move that may be played on a record
+pub record Ready (b : Board) (m : Move) : Type 0 where
+  pub sound : Sound b
+  pub said : sayable m ≡ true
+  pub allows : allowed (shown b) m ≡ true

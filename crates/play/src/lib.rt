@@ -6,11 +6,16 @@ ghost use Prim.Native.Nat.{_+_, _≤_, _<_};
 ghost use lib.ListN.{length, getD};
 ghost use Rattle.card.specs.Card.{isCard};
 ghost use Rattle.board.specs.Record.{shown, columnAt};
-ghost use Rattle.board.specs.Inner.{GoodColumns};
-ghost use Rattle.moves.specs.Move.{column};
-ghost use Rattle.moves.specs.Play.{put, there, othersOf, lastOf};
-ghost use Rattle.play.specs.Change.{Becomes, Cleared, Apart, Copied};
+ghost use Rattle.board.specs.Inner.{GoodColumns, GoodPiles};
+ghost use Prim.Native.Nat.{ℕ};
+ghost use mathlib.Core.List.{List};
+ghost use Rattle.card.specs.Suit.{suitNumber};
+ghost use Rattle.moves.specs.Move.{column, cell, home};
+ghost use Rattle.moves.specs.Play.{put, there, othersOf, lastOf, cellCode, afterMove};
+ghost use Rattle.play.specs.Change.{Becomes, Cleared, Apart, Copied, Ready};
 use board::Board;
+use card::Card;
+use moves::Move;
 
 // One card more on a column.
 fn lay(b: Board, i: usize, code: u8) -> Board
@@ -95,4 +100,40 @@ fn put_run(b: Board, source: usize, destination: usize, n: usize) -> Board
     let more = count + n;
     r.counts[destination] = more as u8;
     r
+}
+
+// A cell with this code in it.
+fn set_cell(b: Board, i: usize, code: u8) -> Board
+    requires { ⌜ GoodColumns (b .counts) (b .tableau) ⌝ }
+    requires { ⌜ length (b .cells) ≡ 4 ⌝ }
+    requires { ⌜ i < 4 ⌝ }
+    ensures { λ r. ⌜ ((l : List ℕ) → code ≡ cellCode l → Becomes r (put (shown b) (cell i) l)) ⌝ }
+{
+    let mut r = b;
+    r.cells[i] = code;
+    r
+}
+
+// A foundation with this count.
+fn set_home(b: Board, s: usize, n: u8) -> Board
+    requires { ⌜ GoodColumns (b .counts) (b .tableau) ⌝ }
+    requires { ⌜ length (b .foundation) ≡ 4 ⌝ }
+    requires { ⌜ s < 4 ⌝ }
+    ensures { λ r. ⌜ ((l : List ℕ) → n ≡ length l → Becomes r (put (shown b) (home s) l)) ⌝ }
+{
+    let mut r = b;
+    r.foundation[s] = n;
+    r
+}
+
+// The card's foundation with one card more.
+fn go_home(b: Board, card: Card) -> Board
+    requires { ⌜ GoodColumns (b .counts) (b .tableau) ⌝ }
+    requires { ⌜ GoodPiles (b .foundation) ⌝ }
+    ensures { λ r. ⌜ ((l : List ℕ) → getD (b .foundation) (suitNumber (card .suit)) 0 + 1 ≡ length l → Becomes r (put (shown b) (home (suitNumber (card .suit))) l)) ⌝ }
+{
+    let suit = card.suit;
+    let s = card::wide(suit.number());
+    let n = b.foundation[s];
+    set_home(b, s, n + 1)
 }
