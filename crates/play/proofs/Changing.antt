@@ -198,7 +198,7 @@ module _ (old : List ℕ) (from to : ℕ) where
             (λ k b. getD-set-other new (to + n) (to + k) _ 0 (λ z. let y : ⊥ = omega arith in y) ∙ c .same k b)
             (getD-set-same new (to + n) _ 0 (let e = c .long in omega arith) ∙ unread m n a c h);
         below = λ p b. getD-set-other new (to + n) p _ 0 (λ z. let y : ⊥ = omega arith in y) ∙ c .below p b;
-        above = λ p b. getD-set-other new (to + n) p _ 0 (λ z. let y : ⊥ = omega arith in y) ∙ c .above p (omega arith)
+        above = λ p b. getD-set-other new (to + n) p _ 0 (λ z. let y : ⊥ = omega arith in y) ∙ c .above p (omega arith);
       }
 
 -- ---- the top n cards gone
@@ -207,7 +207,7 @@ column-cards : {counts tableau : List ℕ} → GoodColumns counts tableau → (i
 column-cards {counts} {tableau} g i h =
     all-by isCard (columnAt counts tableau i)
     (λ j m. let n = column-length g i h in
-      subst (λ (x : ℕ). isCard x ≡ true) (sym (column-code counts tableau i j (omega arith))) (g .codes i j h (omega arith)))
+    subst (λ (x : ℕ). isCard x ≡ true) (sym (column-code counts tableau i j (omega arith))) (g .codes i j h (omega arith)))
 
 module _ (b : Board) (g : GoodColumns (b .counts) (b .tableau)) (i : ℕ) (h : i < 8) (n : ℕ) (enough : n ≤ getD (b .counts) i 0)
     (w : ℕ) (e : w ≡ getD (b .counts) i 0) (T : List ℕ) (c : Cleared (b .tableau) T (i * 52 + (w - n)) n) where
@@ -251,7 +251,7 @@ module _ (b : Board) (g : GoodColumns (b .counts) (b .tableau)) (i : ℕ) (h : i
       (put (shown b) (column i) (othersOf n (there (shown b) (column i))))
   becomes-dropped =
       subst (λ (l : List ℕ). Becomes (record { cells = b .cells; foundation = b .foundation; counts = set (b .counts) i (w - n); tableau = T })
-        (put (shown b) (column i) (othersOf n l)))
+      (put (shown b) (column i) (othersOf n l)))
       (shown-column b i h)
       (becomes-column b g i h (othersOf n col′) (let o = others-long in let m = g .within i h in omega arith) others-cards (w - n) (sym others-long) T
       (c .long ∙ g .full) here-left elsewhere-left)
@@ -294,7 +294,7 @@ module _ (b : Board) (g : GoodColumns (b .counts) (b .tableau)) (s d : ℕ) (hs 
           ap (λ (p : ℕ). getD T p 0) (let q : d * room + j ≡ d * 52 + w + (j - w) = omega arith in q)
           ∙ c .same (j - w) (omega arith) ∙ sym (run-code (j - w) (omega arith))
           ∙ sym (ap (λ (p : ℕ). getD (target ++ lastOf n source) p 0) (let q : j ≡ length target + (j - w) = omega arith in q)
-            ∙ getD-append-add target (lastOf n source) (j - w) 0)
+          ∙ getD-append-add target (lastOf n source) (j - w) 0)
       by-side (no l) (no a) =
           c .above (d * room + j) (omega arith) ∙ g .spare d j hd (omega arith) b0
           ∙ sym (List·getD-eq-default (target ++ lastOf n source) 0 (let o = both-long in omega arith))
@@ -316,10 +316,10 @@ module _ (b : Board) (g : GoodColumns (b .counts) (b .tableau)) (s d : ℕ) (hs 
       (put (shown b) (column d) (there (shown b) (column d) ++ lastOf n (there (shown b) (column s))))
   becomes-run =
       subst (λ (l : List ℕ). Becomes (record { cells = b .cells; foundation = b .foundation; counts = set (b .counts) d (w + n); tableau = T })
-        (put (shown b) (column d) (l ++ lastOf n (there (shown b) (column s)))))
+      (put (shown b) (column d) (l ++ lastOf n (there (shown b) (column s)))))
       (shown-column b d hd)
       (subst (λ (l : List ℕ). Becomes (record { cells = b .cells; foundation = b .foundation; counts = set (b .counts) d (w + n); tableau = T })
-        (put (shown b) (column d) (target ++ lastOf n l)))
+      (put (shown b) (column d) (target ++ lastOf n l)))
       (shown-column b s hs)
       (becomes-column b g d hd (target ++ lastOf n source) (let o = both-long in omega arith)
       (all-append isCard target (lastOf n source) ∙ both (column-cards g d hd) run-cards) (w + n) (sym both-long) T

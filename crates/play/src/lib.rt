@@ -2,7 +2,7 @@
 ghost use mathlib.Core.Path.{_≡_};
 ghost use mathlib.Core.Bool.{true};
 ghost use mathlib.Core.List.{_∷_, [], _++_};
-ghost use Prim.Native.Nat.{_+_, _≤_, _<_};
+ghost use Prim.Native.Nat.{_+_, _-_, _≤_, _<_};
 ghost use lib.ListN.{length, getD};
 ghost use Rattle.card.specs.Card.{isCard};
 ghost use Rattle.board.specs.Record.{shown, columnAt};
@@ -15,6 +15,7 @@ ghost use Rattle.moves.specs.Play.{put, there, othersOf, lastOf, cellCode, afte
 ghost use Rattle.play.specs.Change.{Becomes, Cleared, Apart, Copied, Ready};
 use board::Board;
 use card::Card;
+use card::Suit;
 use moves::Move;
 
 // One card more on a column.
@@ -136,4 +137,66 @@ fn go_home(b: Board, card: Card) -> Board
     let s = card::wide(suit.number());
     let n = b.foundation[s];
     set_home(b, s, n + 1)
+}
+
+// A suit's foundation with one card less.
+fn leave_home(b: Board, suit: Suit) -> Board
+    requires { ⌜ GoodColumns (b .counts) (b .tableau) ⌝ }
+    requires { ⌜ GoodPiles (b .foundation) ⌝ }
+    requires { ⌜ 1 ≤ getD (b .foundation) (suitNumber suit) 0 ⌝ }
+    ensures { λ r. ⌜ ((l : List ℕ) → getD (b .foundation) (suitNumber suit) 0 - 1 ≡ length l → Becomes r (put (shown b) (home (suitNumber suit)) l)) ⌝ }
+{
+    let s = card::wide(suit.number());
+    let n = b.foundation[s];
+    set_home(b, s, n - 1)
+}
+
+// The board after a move that is known to be allowed.
+pub fn apply_at(b: Board, m: Move) -> Board
+    requires { ⌜ Ready b m ⌝ }
+    ensures { λ r. ⌜ Becomes r (afterMove (shown b) m) ⌝ }
+{
+    match m {
+        Move::TableauToTableau {
+            source,
+            destination,
+            count,
+            card: _,
+        } => {
+            let twice = put_run(b, source, destination, count);
+            drop_top(twice, source, count)
+        }
+        Move::TableauToFoundation { source, card } => {
+            let taken = drop_top(b, source, 1);
+            go_home(taken, card)
+        }
+        Move::TableauToFreeCell {
+            source,
+            cell_index,
+            card,
+        } => {
+            let taken = drop_top(b, source, 1);
+            set_cell(taken, cell_index, card::code_of(card))
+        }
+        Move::FreeCellToTableau {
+            cell_index,
+            destination,
+            card,
+        } => {
+            let taken = set_cell(b, cell_index, 255);
+            lay(taken, destination, card::code_of(card))
+        }
+        Move::FreeCellToFoundation { cell_index, card } => {
+            let taken = set_cell(b, cell_index, 255);
+            go_home(taken, card)
+        }
+        Move::FoundationToTableau {
+            suit,
+            destination,
+            card,
+        } => {
+            let taken = leave_home(b, suit);
+            lay(taken, destination, card::code_of(card))
+        }
+    }
 }

@@ -33,9 +33,9 @@ set-home-requires c κs =
 returns : tie.Need-returns
 returns c =
     λ l e.
-        let q = c .before .before .wide .ensures ∙ c .before .before .before .number .ensures in
-        subst (λ (k : ℕ). Becomes (c .set-home .result) (put (shown (c .before .before .before .before .args .t1)) (home k) l)) q
-        (c .set-home .ensures l (ap (λ (k : ℕ). getD (c .before .before .before .before .args .t1 .foundation) k 0 + 1) q ∙ e))
+    let q = c .before .before .wide .ensures ∙ c .before .before .before .number .ensures in
+    subst (λ (k : ℕ). Becomes (c .set-home .result) (put (shown (c .before .before .before .before .args .t1)) (home k) l)) q
+    (c .set-home .ensures l (ap (λ (k : ℕ). getD (c .before .before .before .before .args .t1 .foundation) k 0 + 1) q ∙ e))
 
 pub go-home-spec : {M : Type 1} → statement M
 go-home-spec =
