@@ -3,3 +3,4 @@ pub mod Saying
 pub mod Keeping
 pub mod Allowing
 pub mod Fairness
+pub mod Unique

@@ -1,2 +1,3 @@
 pub mod Changing
 pub mod Playing
+pub mod Unique

@@ -1,1 +1,3 @@
 pub mod Laying
+pub mod Examples
+pub mod Unique
