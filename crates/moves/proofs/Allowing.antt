@@ -66,7 +66,7 @@ allowed-is t m e0 =
 
 -- ---- what is left at a place, and what comes to it
 
-last-length : (n : ℕ) (l : List ℕ) → n ≤ length l → length (lastOf n l) ≡ n
+pub last-length : (n : ℕ) (l : List ℕ) → n ≤ length l → length (lastOf n l) ≡ n
 unfolding lastOf
 last-length n l h = length-drop (length l - n) l ∙ (let q : length l - (length l - n) ≡ n = omega arith in q)
 

@@ -3,4 +3,5 @@ pub mod Saying
 pub mod Keeping
 pub mod Allowing
 pub mod Fairness
+pub mod Deciding
 pub mod Unique

@@ -37,6 +37,10 @@ lastOf n l = drop (length l - n) l
 unfoldable pub othersOf : ℕ → List ℕ → List ℕ
 othersOf n l = take (length l - n) l
 
+-- the last card there is x
+unfoldable pub endsIn : List ℕ → ℕ → Bool
+endsIn l x = leb 1 (length l) && eqb (getD (lastOf 1 l) 0 0) x
+
 -- the cards that a move takes up, and the table without them
 unfoldable pub hand : Table → Move → List ℕ
 hand t m = lastOf (count m) (there t (from m))

@@ -1,3 +1,4 @@
 pub mod Changing
 pub mod Playing
+pub mod Ending
 pub mod Unique

@@ -13,6 +13,9 @@ ghost use Rattle.card.specs.Suit.{suitNumber};
 ghost use Rattle.moves.specs.Move.{column, cell, home};
 ghost use Rattle.moves.specs.Play.{put, there, othersOf, lastOf, cellCode, afterMove};
 ghost use Rattle.play.specs.Change.{Becomes, Cleared, Apart, Copied, Ready};
+
+pub mod allow;
+
 use board::Board;
 use card::Card;
 use card::Suit;

@@ -6,8 +6,8 @@ use Prim.Native.Nat.{ℕ, zero, suc, _+_, _-_, _*_, _/_, _%_, _^_, _<_, _≤_}
 use native.Mathlib.Nat.{le-of-suc-le-suc, le-trans, mul-le-mul-left, suc-mul}
 use native.Mathlib.Numerals.{add-one}
 use native.Mathlib.Omega.{arith}
-use borrow.Author.Tests.{eq-eqb, ne-eqb, eqb-true}
-use lib.Dec.{eqb}
+use borrow.Author.Tests.{eq-eqb, ne-eqb, eqb-true, le-leb, lt-leb}
+use lib.Dec.{eqb, leb}
 use lib.ListN.{length, getD, drop}
 use lib.Seq.{drop-cons, drop-length}
 use lib.Pow.{pow-mono, pow-pos}
@@ -99,6 +99,38 @@ pub run-none : (l : List ℕ) → length l ≡ 0 → runLength l ≡ 0
 unfolding runLength
 run-none [] e = refl
 run-none (x ∷ l) e = absurd (let z : ⊥ = omega arith in z)
+
+pub run-at-most : (l : List ℕ) → runLength l ≤ length l
+unfolding runLength
+run-at-most [] = omega arith
+run-at-most (x ∷ l) = by-run (isRun (x ∷ l)) (run-at-most l)
+  where
+    by-run : (t : Bool) → runLength l ≤ length l → cond t (suc (length l)) (runLength l) ≤ suc (length l)
+    by-run true e = omega arith
+    by-run false e = omega arith
+
+-- what ends a run is a run
+run-rest : (l : List ℕ) (j : ℕ) → j < length l → isRun l ≡ true → isRun (drop j l) ≡ true
+run-rest [] j h r = absurd (let z : ⊥ = omega arith in z)
+run-rest (x ∷ l) zero h r = r
+run-rest (x ∷ l) (suc j) h r =
+    run-rest l j (le-of-suc-le-suc h) (second (follows x (getD l 0 0)) (isRun l) (sym (run-cons x l (omega arith)) ∙ r))
+
+-- the last cards of a column are a run exactly if there are no more of them than its longest run has
+pub run-top : (l : List ℕ) (j : ℕ) → j < length l → isRun (drop j l) ≡ leb (length l - j) (runLength l)
+unfolding runLength
+run-top [] j h = absurd (let z : ⊥ = omega arith in z)
+run-top (x ∷ l) zero h = by-run (isRun (x ∷ l)) refl
+  where
+    by-run : (t : Bool) → isRun (x ∷ l) ≡ t → isRun (x ∷ l) ≡ leb (suc (length l) - 0) (cond t (suc (length l)) (runLength l))
+    by-run true e = e ∙ sym (le-leb (suc (length l) - 0) (suc (length l)) (omega arith))
+    by-run false e = e ∙ sym (lt-leb (suc (length l) - 0) (runLength l) (let m = run-at-most l in omega arith))
+run-top (x ∷ l) (suc j) h = by-run (isRun (x ∷ l)) refl (run-top l j (le-of-suc-le-suc h))
+  where
+    by-run : (t : Bool) → isRun (x ∷ l) ≡ t → isRun (drop j l) ≡ leb (length l - j) (runLength l)
+        → isRun (drop j l) ≡ leb (suc (length l) - suc j) (cond t (suc (length l)) (runLength l))
+    by-run true e i = run-rest (x ∷ l) (suc j) h e ∙ sym (le-leb (suc (length l) - suc j) (suc (length l)) (omega arith))
+    by-run false e i = i ∙ ap (λ (n : ℕ). leb n (runLength l)) (let q : length l - j ≡ suc (length l) - suc j = omega arith in q)
 
 -- ---- one step down a column of a record: its run of `run` cards, and the card under it
 

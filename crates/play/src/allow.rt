@@ -1,0 +1,56 @@
+// Whether a move is allowed on a board that is known to be well formed.
+ghost use mathlib.Core.Path.{_≡_};
+ghost use mathlib.Core.Bool.{true};
+ghost use mathlib.Core.List.{_∷_, []};
+ghost use Prim.Native.Nat.{_<_, _≤_};
+ghost use lib.ListN.{getD};
+ghost use Rattle.card.specs.Card.{isCard};
+ghost use Rattle.card.specs.Suit.{suitNumber};
+ghost use Rattle.board.specs.Table.{held, pile};
+ghost use Rattle.board.specs.Record.{shown, columnAt};
+ghost use Rattle.board.specs.Inner.{GoodColumns, GoodCells, GoodPiles, Sound};
+ghost use Rattle.moves.specs.Move.{sayable};
+ghost use Rattle.moves.specs.Play.{endsIn, allowed};
+use board::Board;
+use card::Card;
+use card::Suit;
+use moves::Move;
+
+// The top of a column is this card.
+fn column_ends_in<'a>(counts: &'a [u8; 8], tableau: &'a [u8; 416], i: usize, code: u8) -> bool
+    requires { ⌜ GoodColumns (now counts) (now tableau) ⌝ }
+    requires { ⌜ i < 8 ⌝ }
+    ensures { λ r. ⌜ r ≡ endsIn (columnAt (now (counts .entry)) (now (tableau .entry)) i) code ⌝ }
+{
+    let count = card::wide(counts[i]);
+    if count == 0 {
+        return false;
+    }
+    let first = i * 52;
+    let last = first + (count - 1);
+    tableau[last] == code
+}
+
+// A cell holds this card.
+fn cell_holds(cells: &[u8; 4], i: usize, code: u8) -> bool
+    requires { ⌜ GoodCells (now cells) ⌝ }
+    requires { ⌜ i < 4 ⌝ }
+    requires { ⌜ isCard code ≡ true ⌝ }
+    ensures { λ r. ⌜ r ≡ endsIn (held (getD (now (cells .entry)) i 0 ∷ [])) code ⌝ }
+{
+    cells[i] == code
+}
+
+// A suit's foundation ends in this card.
+fn home_ends_in(foundation: &[u8; 4], suit: Suit, code: u8) -> bool
+    requires { ⌜ GoodPiles (now foundation) ⌝ }
+    ensures { λ r. ⌜ r ≡ endsIn (pile (suitNumber suit) (getD (now (foundation .entry)) (suitNumber suit) 0)) code ⌝ }
+{
+    let s = suit.number();
+    let count = foundation[card::wide(s)];
+    if count == 0 {
+        return false;
+    }
+    let high = count * 16;
+    high + s == code
+}
