@@ -69,6 +69,25 @@ place-byte (column i) e = let h = ltb-true i 8 e in omega arith
 place-byte (cell i) e = let h = ltb-true i 4 e in omega arith
 place-byte (home s) e = let h = ltb-true s 4 e in omega arith
 
+module _ (m : Move) (e : sayable m ≡ true) where
+  pub said-from : isPlace (from m) ≡ true
+  unfolding sayable
+  said-from = first (isPlace (from m)) _ e
+
+  pub said-to : isPlace (to m) ≡ true
+  unfolding sayable
+  said-to = first (isPlace (to m)) _ (second (isPlace (from m)) _ e)
+
+  pub said-count : 1 ≤ count m
+  unfolding sayable
+  said-count =
+      leb-true 1 (count m)
+      (first (leb 1 (count m)) _ (first (leb 1 (count m) && leb (count m) 255) (isValue (card m .value)) (second (isPlace (to m)) _ (second (isPlace (from m)) _ e))))
+
+  pub said-value : isValue (card m .value) ≡ true
+  unfolding sayable
+  said-value = second (leb 1 (count m) && leb (count m) 255) (isValue (card m .value)) (second (isPlace (to m)) _ (second (isPlace (from m)) _ e))
+
 pub record Said (m : Move) : Type 0 where
   pub fromByte : placeNumber (from m) < 256
   pub toByte : placeNumber (to m) < 256

@@ -14,11 +14,14 @@ use Rattle.card.specs.Card.{isCard}
 use Rattle.card.proofs.Words.{first-fails, length-listed, getD-listed}
 use Rattle.card.proofs.Codes.{card-is}
 use Rattle.board.specs.Table.{pile, held}
-use Rattle.board.specs.Record.{columnAt}
+use Rattle.board.specs.Record.{columnAt, shown}
 use Rattle.board.specs.Inner.{GoodColumns}
+use Rattle.board.specs.declared.Board.{Board}
 use Rattle.board.proofs.Tables.{cell-empty, cell-card}
 use Rattle.board.proofs.Soundness.{column-length, column-code}
-use Rattle.moves.specs.Play.{lastOf, endsIn}
+use Rattle.questions.proofs.Asking.{shown-column, shown-cells, shown-foundation}
+use Rattle.moves.specs.Move.{column, cell, home}
+use Rattle.moves.specs.Play.{there, lastOf, endsIn}
 
 pub ends-none : (l : List ℕ) (x : ℕ) → length l ≡ 0 → endsIn l x ≡ false
 unfolding endsIn
@@ -61,3 +64,18 @@ module _ (s n x : ℕ) where
       sym
       (ends-some (listed n g) x (n - 1) (let l = length-listed g n in omega arith)
       ∙ ap (λ (y : ℕ). eqb y x) (getD-listed g n (n - 1) 0 (omega arith) ∙ (let q : (n - 1 + 1) * 16 + s ≡ n * 16 + s = omega arith in q)))
+
+-- ---- said of what a record shows
+
+module _ (b : Board) {r : Bool} {x y : ℕ} where
+  pub shown-ends-column : (i : ℕ) → i < 8 → r ≡ endsIn (columnAt (b .counts) (b .tableau) i) x → x ≡ y → r ≡ endsIn (there (shown b) (column i)) y
+  shown-ends-column i h e q =
+      e ∙ ap (endsIn (columnAt (b .counts) (b .tableau) i)) q ∙ ap (λ (l : List ℕ). endsIn l y) (shown-column b i h)
+
+  pub shown-ends-cell : (i : ℕ) → r ≡ endsIn (held (getD (b .cells) i 0 ∷ [])) x → x ≡ y → r ≡ endsIn (there (shown b) (cell i)) y
+  shown-ends-cell i e q =
+      e ∙ ap (endsIn (held (getD (b .cells) i 0 ∷ []))) q ∙ ap (λ (l : List ℕ). endsIn (held (getD l i 0 ∷ [])) y) (shown-cells b)
+
+  pub shown-ends-home : (s : ℕ) → r ≡ endsIn (pile s (getD (b .foundation) s 0)) x → x ≡ y → r ≡ endsIn (there (shown b) (home s)) y
+  shown-ends-home s e q =
+      e ∙ ap (endsIn (pile s (getD (b .foundation) s 0))) q ∙ ap (λ (l : List ℕ). endsIn (pile s (getD l s 0)) y) (shown-foundation b)

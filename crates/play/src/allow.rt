@@ -4,13 +4,13 @@ ghost use mathlib.Core.Bool.{true};
 ghost use mathlib.Core.List.{_∷_, []};
 ghost use Prim.Native.Nat.{_<_, _≤_};
 ghost use lib.ListN.{getD};
-ghost use Rattle.card.specs.Card.{isCard};
+ghost use Rattle.card.specs.Card.{isCard, codeOf};
 ghost use Rattle.card.specs.Suit.{suitNumber};
 ghost use Rattle.board.specs.Table.{held, pile};
 ghost use Rattle.board.specs.Record.{shown, columnAt};
 ghost use Rattle.board.specs.Inner.{GoodColumns, GoodCells, GoodPiles, Sound};
-ghost use Rattle.moves.specs.Move.{sayable};
-ghost use Rattle.moves.specs.Play.{endsIn, allowed};
+ghost use Rattle.moves.specs.Move.{from, to, card, sayable};
+ghost use Rattle.moves.specs.Play.{there, endsIn, allowed};
 use board::Board;
 use card::Card;
 use card::Suit;
@@ -53,4 +53,47 @@ fn home_ends_in(foundation: &[u8; 4], suit: Suit, code: u8) -> bool
     }
     let high = count * 16;
     high + s == code
+}
+
+// The named card is the last where the move takes from.
+fn ends_at(b: Board, m: Move) -> bool
+    requires { ⌜ Sound b ⌝ }
+    requires { ⌜ sayable m ≡ true ⌝ }
+    ensures { λ r. ⌜ r ≡ endsIn (there (shown b) (from m)) (codeOf (card m)) ⌝ }
+{
+    match m {
+        Move::TableauToTableau { source, card, .. } => column_ends_in(
+            &b.counts,
+            &b.tableau,
+            source,
+            card::code_of(card),
+        ),
+        Move::TableauToFoundation { source, card } => column_ends_in(
+            &b.counts,
+            &b.tableau,
+            source,
+            card::code_of(card),
+        ),
+        Move::TableauToFreeCell { source, card, .. } => column_ends_in(
+            &b.counts,
+            &b.tableau,
+            source,
+            card::code_of(card),
+        ),
+        Move::FreeCellToTableau {
+            cell_index,
+            card,
+            ..
+        } => cell_holds(&b.cells, cell_index, card::code_of(card)),
+        Move::FreeCellToFoundation { cell_index, card } => cell_holds(
+            &b.cells,
+            cell_index,
+            card::code_of(card),
+        ),
+        Move::FoundationToTableau { suit, card, .. } => home_ends_in(
+            &b.foundation,
+            suit,
+            card::code_of(card),
+        ),
+    }
 }
