@@ -24,7 +24,7 @@ use Rattle.board.proofs.Tables.{cell-empty, cell-card}
 use Rattle.rules.specs.Fit.{homeTakes}
 use Rattle.rules.specs.Run.{isRun}
 use Rattle.moves.specs.Move.{Place, column, cell, home, from, to, count, card, isPlace, sayable}
-use Rattle.moves.specs.Play.{there, cellCode, put, lastOf, othersOf, hand, without, afterMove, elsewhere, withinLimit, fitsColumn, cellFree, nextHome, allowed}
+use Rattle.moves.specs.Play.{there, cellCode, put, lastOf, othersOf, hand, without, afterMove, elsewhere, withinLimit, fitsColumn, cellFree, nextHome, takes, allowed}
 use Rattle.moves.specs.declared.Move.{Move}
 use Rattle.moves.specs.declared.Move.the-variants.{TableauToTableau, TableauToFoundation, TableauToFreeCell, FreeCellToTableau, FreeCellToFoundation, FoundationToTableau}
 use Rattle.moves.proofs.Keeping.{Seats, Holds, seats-put, move-keeps}
@@ -43,7 +43,7 @@ pub record Allowed (t : Table) (m : Move) : Type 0 where
   pub next : nextHome t (to m) (codeOf (card m)) ≡ true
 
 pub allowed-is : (t : Table) (m : Move) → allowed t m ≡ true → Allowed t m
-unfolding allowed
+unfolding allowed takes
 allowed-is t m e0 =
     let e1 = second (elsewhere (from m) (to m)) _ e0 in
     let e2 = second (leb 1 (length (there t (from m)))) _ e1 in

@@ -13,7 +13,7 @@ use Rattle.card.proofs.Words.{true-or-not, both, first, second, first-fails, se
 use Rattle.board.specs.Table.{Table}
 use Rattle.rules.specs.Run.{isRun}
 use Rattle.moves.specs.Move.{Place, column, cell, home, from, to, count, card}
-use Rattle.moves.specs.Play.{there, lastOf, hand, elsewhere, withinLimit, fitsColumn, cellFree, nextHome, allowed, endsIn}
+use Rattle.moves.specs.Play.{there, lastOf, hand, elsewhere, withinLimit, takes, allowed, endsIn}
 use Rattle.moves.specs.declared.Move.{Move}
 use Rattle.moves.proofs.Allowing.{last-length}
 
@@ -45,8 +45,7 @@ module _ (t : Table) (m : Move) where
   module _ (away : elsewhere (from m) (to m) ≡ true) (some : 1 ≤ length (there t (from m))) (enough : count m ≤ length (there t (from m)))
       (named : getD (hand t m) 0 0 ≡ codeOf (card m)) where
     pub others-decide : allowed t m
-        ≡ (withinLimit t (from m) (to m) (count m)
-        && (isRun (hand t m) && (fitsColumn t (to m) (codeOf (card m)) && (cellFree t (to m) && nextHome t (to m) (codeOf (card m))))))
+        ≡ (withinLimit t (from m) (to m) (count m) && (isRun (hand t m) && takes t (to m) (codeOf (card m))))
     unfolding allowed
     others-decide =
         rw (
@@ -79,7 +78,7 @@ module _ (t : Table) (m : Move) (one : count m ≡ 1) (away : elsewhere (from m)
           refl)
 
   pub one-decided : endsIn (there t (from m)) (codeOf (card m)) ≡ true
-      → allowed t m ≡ (fitsColumn t (to m) (codeOf (card m)) && (cellFree t (to m) && nextHome t (to m) (codeOf (card m))))
+      → allowed t m ≡ takes t (to m) (codeOf (card m))
   unfolding endsIn hand
   one-decided e =
       let h = leb-true 1 (length (there t (from m))) (first (leb 1 (length (there t (from m)))) _ e) in

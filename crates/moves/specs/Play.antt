@@ -94,6 +94,10 @@ nextHome t (column i) x = true
 nextHome t (cell i) x = true
 nextHome t (home s) x = homeTakes (t .foundation) x
 
+-- the last three tests: the place takes the card
+unfoldable pub takes : Table → Place → ℕ → Bool
+takes t p x = fitsColumn t p x && (cellFree t p && nextHome t p x)
+
 -- the first cause that holds, or the table after the move
 unfoldable pub played : Table → Move → Answer Table
 played t m =
@@ -115,4 +119,4 @@ allowed t m =
     && (leb (count m) (length (there t (from m)))
     && (eqb (getD (hand t m) 0 0) (codeOf (card m))
     && (withinLimit t (from m) (to m) (count m)
-    && (isRun (hand t m) && (fitsColumn t (to m) (codeOf (card m)) && (cellFree t (to m) && nextHome t (to m) (codeOf (card m)))))))))
+    && (isRun (hand t m) && takes t (to m) (codeOf (card m)))))))

@@ -1,6 +1,6 @@
 -- What the last card of a place is, for a column, a cell and a foundation of a record.
 use mathlib.Core.Path.{_≡_, refl, sym, ap, _∙_, subst}
-use mathlib.Core.Bool.{Bool, true, false, _&&_}
+use mathlib.Core.Bool.{Bool, true, false, _&&_, and-true}
 use mathlib.Core.List.{List, [], _∷_}
 use Prim.Native.Nat.{ℕ, zero, suc, _+_, _-_, _*_, _<_, _≤_}
 use native.Mathlib.Omega.{arith}
@@ -20,8 +20,9 @@ use Rattle.board.specs.declared.Board.{Board}
 use Rattle.board.proofs.Tables.{cell-empty, cell-card}
 use Rattle.board.proofs.Soundness.{column-length, column-code}
 use Rattle.questions.proofs.Asking.{shown-column, shown-cells, shown-foundation}
+use Rattle.rules.specs.Fit.{fitsOn, homeTakes}
 use Rattle.moves.specs.Move.{column, cell, home}
-use Rattle.moves.specs.Play.{there, lastOf, endsIn}
+use Rattle.moves.specs.Play.{there, lastOf, endsIn, takes}
 
 pub ends-none : (l : List ℕ) (x : ℕ) → length l ≡ 0 → endsIn l x ≡ false
 unfolding endsIn
@@ -79,3 +80,16 @@ module _ (b : Board) {r : Bool} {x y : ℕ} where
   pub shown-ends-home : (s : ℕ) → r ≡ endsIn (pile s (getD (b .foundation) s 0)) x → x ≡ y → r ≡ endsIn (there (shown b) (home s)) y
   shown-ends-home s e q =
       e ∙ ap (endsIn (pile s (getD (b .foundation) s 0))) q ∙ ap (λ (l : List ℕ). endsIn (pile s (getD l s 0)) y) (shown-foundation b)
+
+  pub shown-takes-column : (i : ℕ) → i < 8 → r ≡ fitsOn (columnAt (b .counts) (b .tableau) i) x → x ≡ y → r ≡ takes (shown b) (column i) y
+  unfolding takes
+  shown-takes-column i h e q =
+      e ∙ ap (fitsOn (columnAt (b .counts) (b .tableau) i)) q ∙ ap (λ (l : List ℕ). fitsOn l y) (shown-column b i h) ∙ sym (and-true (fitsOn (there (shown b) (column i)) y))
+
+  pub shown-takes-home : (s : ℕ) → r ≡ homeTakes (b .foundation) x → x ≡ y → r ≡ takes (shown b) (home s) y
+  unfolding takes
+  shown-takes-home s e q = e ∙ ap (homeTakes (b .foundation)) q ∙ ap (λ (l : List ℕ). homeTakes l y) (shown-foundation b)
+
+pub shown-takes-cell : (b : Board) (i y : ℕ) → eqb (getD (b .cells) i 0) 255 ≡ takes (shown b) (cell i) y
+unfolding takes
+shown-takes-cell b i y = ap (λ (l : List ℕ). eqb (getD l i 0) 255) (shown-cells b) ∙ sym (and-true (eqb (getD (shown b .cells) i 0) 255))

@@ -10,7 +10,7 @@ ghost use Rattle.board.specs.Table.{held, pile};
 ghost use Rattle.board.specs.Record.{shown, columnAt};
 ghost use Rattle.board.specs.Inner.{GoodColumns, GoodCells, GoodPiles, Sound};
 ghost use Rattle.moves.specs.Move.{from, to, card, sayable};
-ghost use Rattle.moves.specs.Play.{there, endsIn, allowed};
+ghost use Rattle.moves.specs.Play.{there, endsIn, takes};
 use board::Board;
 use card::Card;
 use card::Suit;
@@ -95,5 +95,39 @@ fn ends_at(b: Board, m: Move) -> bool
             suit,
             card::code_of(card),
         ),
+    }
+}
+
+// The place that the move goes to takes its card.
+fn takes_at(b: Board, m: Move) -> bool
+    requires { ⌜ Sound b ⌝ }
+    requires { ⌜ sayable m ≡ true ⌝ }
+    ensures { λ r. ⌜ r ≡ takes (shown b) (to m) (codeOf (card m)) ⌝ }
+{
+    match m {
+        Move::TableauToTableau {
+            destination,
+            card,
+            ..
+        } => rules::fit_at(&b.counts, &b.tableau, destination, card::code_of(card)),
+        Move::TableauToFoundation { card, .. } => rules::home_takes(
+            &b.foundation,
+            card::code_of(card),
+        ),
+        Move::TableauToFreeCell { cell_index, .. } => b.cells[cell_index] == 255,
+        Move::FreeCellToTableau {
+            destination,
+            card,
+            ..
+        } => rules::fit_at(&b.counts, &b.tableau, destination, card::code_of(card)),
+        Move::FreeCellToFoundation { card, .. } => rules::home_takes(
+            &b.foundation,
+            card::code_of(card),
+        ),
+        Move::FoundationToTableau {
+            destination,
+            card,
+            ..
+        } => rules::fit_at(&b.counts, &b.tableau, destination, card::code_of(card)),
     }
 }
