@@ -1,4 +1,5 @@
 pub mod Changing
 pub mod Playing
 pub mod Ending
+pub mod Running
 pub mod Unique

@@ -10,7 +10,8 @@ ghost use Rattle.board.specs.Table.{held, pile};
 ghost use Rattle.board.specs.Record.{shown, columnAt};
 ghost use Rattle.board.specs.Inner.{GoodColumns, GoodCells, GoodPiles, Sound};
 ghost use Rattle.moves.specs.Move.{from, to, card, sayable};
-ghost use Rattle.moves.specs.Play.{there, endsIn, takes};
+ghost use Rattle.moves.specs.declared.Move.the-variants.{TableauToTableau};
+ghost use Rattle.moves.specs.Play.{there, endsIn, takes, allowed};
 use board::Board;
 use card::Card;
 use card::Suit;
@@ -130,4 +131,32 @@ fn takes_at(b: Board, m: Move) -> bool
             ..
         } => rules::fit_at(&b.counts, &b.tableau, destination, card::code_of(card)),
     }
+}
+
+// A run may go from one column to another.
+fn run_allowed(b: Board, source: usize, destination: usize, count: usize, card: Card) -> bool
+    requires { ⌜ Sound b ⌝ }
+    requires { ⌜ sayable (TableauToTableau source destination count card) ≡ true ⌝ }
+    ensures { λ r. ⌜ r ≡ allowed (shown b) (TableauToTableau source destination count card) ⌝ }
+{
+    if source == destination {
+        return false;
+    }
+    let lie = card::wide(b.counts[source]);
+    if lie < count {
+        return false;
+    }
+    let first = source * 52;
+    let deepest = first + (lie - count);
+    let code = card::code_of(card);
+    if b.tableau[deepest] != code {
+        return false;
+    }
+    if rules::most_at(&b.cells, &b.counts, &b.tableau, destination) < count {
+        return false;
+    }
+    if rules::run_at(&b.counts, &b.tableau, source) < count {
+        return false;
+    }
+    rules::fit_at(&b.counts, &b.tableau, destination, code)
 }
