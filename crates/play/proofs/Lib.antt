@@ -2,4 +2,5 @@ pub mod Changing
 pub mod Playing
 pub mod Ending
 pub mod Running
+pub mod Single
 pub mod Unique

@@ -9,9 +9,9 @@ ghost use Rattle.card.specs.Suit.{suitNumber};
 ghost use Rattle.board.specs.Table.{held, pile};
 ghost use Rattle.board.specs.Record.{shown, columnAt};
 ghost use Rattle.board.specs.Inner.{GoodColumns, GoodCells, GoodPiles, Sound};
-ghost use Rattle.moves.specs.Move.{from, to, card, sayable};
+ghost use Rattle.moves.specs.Move.{from, to, count, card, sayable};
 ghost use Rattle.moves.specs.declared.Move.the-variants.{TableauToTableau};
-ghost use Rattle.moves.specs.Play.{there, endsIn, takes, allowed};
+ghost use Rattle.moves.specs.Play.{there, elsewhere, withinLimit, endsIn, takes, allowed};
 use board::Board;
 use card::Card;
 use card::Suit;
@@ -159,4 +159,36 @@ fn run_allowed(b: Board, source: usize, destination: usize, count: usize, card: 
         return false;
     }
     rules::fit_at(&b.counts, &b.tableau, destination, code)
+}
+
+// A move of one card is allowed.
+fn one_allowed(b: Board, m: Move) -> bool
+    requires { ⌜ Sound b ⌝ }
+    requires { ⌜ sayable m ≡ true ⌝ }
+    requires { ⌜ count m ≡ 1 ⌝ }
+    requires { ⌜ elsewhere (from m) (to m) ≡ true ⌝ }
+    requires { ⌜ withinLimit (shown b) (from m) (to m) (count m) ≡ true ⌝ }
+    ensures { λ r. ⌜ r ≡ allowed (shown b) m ⌝ }
+{
+    if ends_at(b, m) {
+        return takes_at(b, m);
+    }
+    false
+}
+
+// A move that can be said is allowed on a well formed board.
+pub fn allowed_at(b: Board, m: Move) -> bool
+    requires { ⌜ Sound b ⌝ }
+    requires { ⌜ sayable m ≡ true ⌝ }
+    ensures { λ r. ⌜ r ≡ allowed (shown b) m ⌝ }
+{
+    match m {
+        Move::TableauToTableau {
+            source,
+            destination,
+            count,
+            card,
+        } => run_allowed(b, source, destination, count, card),
+        _ => one_allowed(b, m),
+    }
 }
