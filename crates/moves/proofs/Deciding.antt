@@ -8,12 +8,13 @@ use native.Mathlib.Decide.{decLt}
 use borrow.Author.Tests.{le-leb, lt-leb, eq-eqb, ne-eqb, leb-true, eqb-true}
 use lib.Dec.{eqb, leb}
 use lib.ListN.{length, getD}
+use Rattle.card.specs.Answer.{Answer, given, unless}
 use Rattle.card.specs.Card.{codeOf}
 use Rattle.card.proofs.Words.{true-or-not, both, first, second, first-fails, second-fails}
 use Rattle.board.specs.Table.{Table}
 use Rattle.rules.specs.Run.{isRun}
 use Rattle.moves.specs.Move.{Place, column, cell, home, from, to, count, card}
-use Rattle.moves.specs.Play.{there, lastOf, hand, elsewhere, withinLimit, takes, allowed, endsIn}
+use Rattle.moves.specs.Play.{there, lastOf, hand, elsewhere, withinLimit, fitsColumn, cellFree, nextHome, takes, causeNumber, played, allowed, afterMove, endsIn}
 use Rattle.moves.specs.declared.Move.{Move}
 use Rattle.moves.proofs.Allowing.{last-length}
 
@@ -85,3 +86,22 @@ module _ (t : Table) (m : Move) (one : count m ≡ 1) (away : elsewhere (from m)
       let q = eqb-true (getD (lastOf 1 (there t (from m))) 0 0) (codeOf (card m)) (second (leb 1 (length (there t (from m)))) _ e) in
       others-decide t m away h (omega arith) (ap (λ (n : ℕ). getD (lastOf n (there t (from m))) 0 0) one ∙ q)
       ∙ rw (limit, one-run (lastOf (count m) (there t (from m))) (last-length (count m) (there t (from m)) (omega arith) ∙ one))
+
+-- ---- the causes and `allowed` say the same
+
+module _ (t : Table) (m : Move) where
+  -- one test more
+  step : (a b : Bool) {x : Answer Table} → x ≡ unless b 30 (given (afterMove t m)) → unless a 30 x ≡ unless (a && b) 30 (given (afterMove t m))
+  step true b e = e
+  step false b e = refl
+
+  pub played-is : played t m ≡ unless (allowed t m) 30 (given (afterMove t m))
+  unfolding played allowed takes causeNumber
+  played-is =
+      step (elsewhere (from m) (to m)) _
+      (step (leb 1 (length (there t (from m)))) _
+      (step (leb (count m) (length (there t (from m)))) _
+      (step (eqb (getD (hand t m) 0 0) (codeOf (card m))) _
+      (step (withinLimit t (from m) (to m) (count m)) _
+      (step (isRun (hand t m)) _
+      (step (fitsColumn t (to m) (codeOf (card m))) _ (step (cellFree t (to m)) (nextHome t (to m) (codeOf (card m))) refl)))))))
