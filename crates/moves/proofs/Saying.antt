@@ -4,7 +4,7 @@ use mathlib.Core.Bool.{Bool, true, false, cond, _&&_}
 use mathlib.Core.List.{List, [], _∷_}
 use Prim.Native.Nat.{ℕ, zero, suc, _+_, _*_, _/_, _%_, _<_, _≤_}
 use native.Mathlib.Omega.{arith}
-use borrow.Author.Tests.{eqb-true, ltb-true, ne-eqb, lt-leb}
+use borrow.Author.Tests.{eqb-true, ltb-true, ne-eqb, lt-leb, le-leb, lt-ltb}
 use lib.Dec.{eqb, leb, ltb}
 use lib.ListN.{length, getD}
 use Rattle.card.specs.Suit.{suitNumber, suitAt}
@@ -12,7 +12,7 @@ use Rattle.card.specs.Card.{isCard, isValue, cardOf, codeOf}
 use Rattle.card.specs.declared.Card.{Card}
 use Rattle.card.specs.declared.Suit.{Suit}
 use Rattle.card.proofs.Words.{true-or-not, both, first, second}
-use Rattle.card.proofs.Codes.{card-is, card-code, code-card, suit-at-number, number-suit-at}
+use Rattle.card.proofs.Codes.{card-is, is-value, card-code, code-card, suit-below, suit-at-number, number-suit-at}
 use Rattle.moves.specs.Move.{sayable}
 use Rattle.moves.specs.Record.{sourceRoom, targetAllows, countAllows, possible, moveSaid, moveOf, recordOf}
 use Rattle.moves.specs.declared.Move.{Move}
@@ -79,3 +79,39 @@ record-of-move (a ∷ b ∷ c ∷ d ∷ x ∷ []) e =
 record-of-move (a ∷ b ∷ c ∷ d ∷ x ∷ y ∷ l) e =
     let h = eqb-true (length (a ∷ b ∷ c ∷ d ∷ x ∷ y ∷ l)) 5 (first (eqb (length (a ∷ b ∷ c ∷ d ∷ x ∷ y ∷ l)) 5) _ e) in
     absurd (let w : ⊥ = omega arith in w)
+
+-- the move of a possible record of bytes can be said
+module _ (f t n x : ℕ) (isc : isCard x ≡ true) (byte : n ≤ 255) where
+  has-value : isValue (cardOf x .value) ≡ true
+  unfolding cardOf
+  has-value = let c = card-is x isc in is-value (x / 16) (c .low) (c .high)
+
+  suited : (s : Suit) → ltb (suitNumber s) 4 ≡ true
+  suited s = lt-ltb (suitNumber s) 4 (suit-below s)
+
+  said-kind : (k : ℕ) → ltb f (sourceRoom k) ≡ true → targetAllows k t x ≡ true → countAllows k n ≡ true
+      → sayable (moveSaid k f t n x) ≡ true
+  unfolding sourceRoom targetAllows countAllows moveSaid sayable
+  said-kind zero s g c = let h = ltb-true f 0 s in absurd (let z : ⊥ = omega arith in z)
+  said-kind (suc zero) s g c = both s (both g (both (both c (le-leb n 255 byte)) has-value))
+  said-kind (suc (suc zero)) s g c = both s (both (suited (cardOf x .suit)) has-value)
+  said-kind (suc (suc (suc zero))) s g c = both s (both g has-value)
+  said-kind (suc (suc (suc (suc zero)))) s g c = both s (both g has-value)
+  said-kind (suc (suc (suc (suc (suc zero))))) s g c = both s (both (suited (cardOf x .suit)) has-value)
+  said-kind (suc (suc (suc (suc (suc (suc zero)))))) s g c = both (suited (suitAt f)) (both g has-value)
+  said-kind (suc (suc (suc (suc (suc (suc (suc k))))))) s g c =
+      let h = ltb-true f _ s in
+      let z = no-kind (suc (suc (suc (suc (suc (suc (suc k))))))) (omega arith) in
+      absurd (let w : ⊥ = omega arith in w)
+
+pub said-of-record : (r : List ℕ) → getD r 3 0 ≤ 255 → possible r ≡ true → sayable (moveOf r) ≡ true
+unfolding possible moveOf
+said-of-record r byte e =
+    let more = second (eqb (length r) 5) _ e in
+    let isc = first (isCard (getD r 4 0)) _ more in
+    let rest = second (isCard (getD r 4 0)) _ more in
+    let goal = second (ltb (getD r 1 0) (sourceRoom (getD r 0 0))) _ rest in
+    said-kind (getD r 1 0) (getD r 2 0) (getD r 3 0) (getD r 4 0) isc byte (getD r 0 0)
+    (first (ltb (getD r 1 0) (sourceRoom (getD r 0 0))) _ rest)
+    (first (targetAllows (getD r 0 0) (getD r 2 0) (getD r 4 0)) _ goal)
+    (second (targetAllows (getD r 0 0) (getD r 2 0) (getD r 4 0)) _ goal)
