@@ -24,7 +24,9 @@ pub enum Refusal {
     CardTwice,
     CardMissing,
     NoDeck,
+    NoRoom,
     OutOfRange,
+    WrongList,
 }
 
 pub enum Examined {
@@ -64,6 +66,8 @@ pub fn number(why: Refusal) -> u8
         Refusal::CardTwice => 14,
         Refusal::CardMissing => 15,
         Refusal::NoDeck => 16,
+        Refusal::NoRoom => 21,
         Refusal::OutOfRange => 30,
+        Refusal::WrongList => 31,
     }
 }

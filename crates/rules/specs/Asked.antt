@@ -25,8 +25,8 @@ runAsked b i = after (examined b) (unless (ltb i 8) 30 (given (runLength (getD (
 unfoldable pub mostAsked : Board → ℕ → Answer ℕ
 mostAsked b i = after (examined b) (unless (ltb i 8) 30 (given (mostMoved (shown b .cells) (shown b .columns) i)))
 
-unfoldable pub homeAsked : Board → ℕ → Answer Bool
-homeAsked b x = after (examined b) (unless (isCard x) 30 (given (homeTakes (shown b .foundation) x)))
+unfoldable pub takesAsked : Board → ℕ → Answer Bool
+takesAsked b x = after (examined b) (unless (isCard x) 30 (given (homeTakes (shown b .foundation) x)))
 
 -- what each case of a yes or no means
 abbrev pub yesTold : YesNo → Answer Bool

@@ -11,7 +11,7 @@ ghost use Rattle.questions.specs.Told.{countTold};
 ghost use Rattle.rules.specs.Fit.{red, follows, fitsOn, homeTakes};
 ghost use Rattle.rules.specs.Run.{runLength};
 ghost use Rattle.rules.specs.Limit.{usable, mostMoved};
-ghost use Rattle.rules.specs.Asked.{fitAsked, runAsked, mostAsked, homeAsked, yesTold};
+ghost use Rattle.rules.specs.Asked.{fitAsked, runAsked, mostAsked, takesAsked, yesTold};
 use board::Board;
 use board::Examined;
 use board::Refusal;
@@ -172,7 +172,7 @@ pub fn max_movable_cards(b: Board, to: usize) -> CountAnswer
 }
 
 pub fn can_add_to_foundation(b: Board, code: u8) -> YesNo
-    ensures { λ r. ⌜ yesTold r ≡ homeAsked b code ⌝ }
+    ensures { λ r. ⌜ yesTold r ≡ takesAsked b code ⌝ }
 {
     if let Examined::Refused(why) = inspect(&b.cells, &b.foundation, &b.counts, &b.tableau) {
         return YesNo::Refused(why);
