@@ -1,4 +1,5 @@
 pub mod Words
 pub mod Sums
 pub mod Codes
+pub mod Answers
 pub mod Unique

@@ -13,6 +13,7 @@ use Rattle.card.specs.Card.{isCard}
 use Rattle.card.specs.Pack.{cardAt}
 use Rattle.card.proofs.Words.{all-at, all-by, all-concat, every-by, length-listed, getD-listed, occurs-listed, occurs-concat, singles, singles-listed}
 use Rattle.card.proofs.Sums.{sum-same}
+use Rattle.card.proofs.Answers.{given-by}
 use Rattle.board.specs.Table.{Table}
 use Rattle.board.specs.Judged.{Verdict, fine, after, noneTwice, judged, wellFormed}
 use Rattle.board.specs.Record.{room, atMost, examined, boardOf}
@@ -28,10 +29,6 @@ use Rattle.intake.specs.Deal.{rows, dealtColumn, dealt, dealAsked}
 use Rattle.intake.proofs.Dealing.{row-within, board-dealt}
 
 -- ---- an answer that is given passed every test
-
-given-by : {A : Type 0} (ok : Bool) (n : ℕ) (a : Answer A) {x : A} → unless ok n a ≡ given x → (ok ≡ true) × (a ≡ given x)
-given-by true n a e = (refl, e)
-given-by false n a e = let z : _≡_ {A = ℕ} 0 1 = cc in absurd (let w : ⊥ = omega arith in w)
 
 after-given : {A : Type 0} (v : Verdict) (a : Answer A) {x : A} → after v a ≡ given x → (v ≡ fine) × (a ≡ given x)
 after-given (given u) a e = (refl, e)

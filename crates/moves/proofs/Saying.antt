@@ -11,10 +11,12 @@ use Rattle.card.specs.Suit.{suitNumber, suitAt}
 use Rattle.card.specs.Card.{isCard, isValue, cardOf, codeOf}
 use Rattle.card.specs.declared.Card.{Card}
 use Rattle.card.specs.declared.Suit.{Suit}
+use Rattle.card.specs.Answer.{Answer, given, refused}
+use Rattle.card.proofs.Answers.{given-by}
 use Rattle.card.proofs.Words.{true-or-not, both, first, second}
-use Rattle.card.proofs.Codes.{card-is, is-value, card-code, code-card, suit-below, suit-at-number, number-suit-at}
+use Rattle.card.proofs.Codes.{card-is, value-of-card, card-code, code-card, suit-below, suit-at-number, number-suit-at}
 use Rattle.moves.specs.Move.{sayable}
-use Rattle.moves.specs.Record.{sourceRoom, targetAllows, countAllows, possible, moveSaid, moveOf, recordOf}
+use Rattle.moves.specs.Record.{sourceRoom, targetAllows, countAllows, possible, moveSaid, moveOf, moveAsked, recordOf}
 use Rattle.moves.specs.declared.Move.{Move}
 use Rattle.moves.specs.declared.Move.the-variants.{TableauToTableau, TableauToFoundation, TableauToFreeCell, FreeCellToTableau, FreeCellToFoundation, FoundationToTableau}
 
@@ -82,9 +84,8 @@ record-of-move (a ∷ b ∷ c ∷ d ∷ x ∷ y ∷ l) e =
 
 -- the move of a possible record of bytes can be said
 module _ (f t n x : ℕ) (isc : isCard x ≡ true) (byte : n ≤ 255) where
-  has-value : isValue (cardOf x .value) ≡ true
-  unfolding cardOf
-  has-value = let c = card-is x isc in is-value (x / 16) (c .low) (c .high)
+  abbrev has-value : isValue (cardOf x .value) ≡ true
+  has-value = value-of-card x isc
 
   suited : (s : Suit) → ltb (suitNumber s) 4 ≡ true
   suited s = lt-ltb (suitNumber s) 4 (suit-below s)
@@ -115,3 +116,11 @@ said-of-record r byte e =
     (first (ltb (getD r 1 0) (sourceRoom (getD r 0 0))) _ rest)
     (first (targetAllows (getD r 0 0) (getD r 2 0) (getD r 4 0)) _ goal)
     (second (targetAllows (getD r 0 0) (getD r 2 0) (getD r 4 0)) _ goal)
+
+-- the move that some bytes ask for
+pub said-asked : (r : List ℕ) {m : Move} → getD r 3 0 ≤ 255 → given m ≡ moveAsked r → sayable m ≡ true
+unfolding moveAsked
+said-asked r {m} byte e =
+    let g = given-by (possible r) 30 (given (moveOf r)) (sym e) in
+    let same : moveOf r ≡ m = (let q = g .1 in cc) in
+    subst (λ (n : Move). sayable n ≡ true) same (said-of-record r byte (g .0))

@@ -54,6 +54,11 @@ abbrev pub moveTold : Decoded → Answer Move
 moveTold (Is m) = given m
 moveTold Impossible = refused 30
 
+-- a move that is told can be said
+abbrev pub sayableTold : Decoded → Bool
+sayableTold (Is m) = sayable m
+sayableTold Impossible = true
+
 -- the record of a move
 unfoldable pub recordOf : Move → List ℕ
 recordOf (TableauToTableau s d n c) = 1 ∷ s ∷ d ∷ n ∷ codeOf c ∷ []

@@ -5,7 +5,7 @@ ghost use mathlib.Core.List.{_∷_, []};
 ghost use Prim.Native.Nat.{_<_};
 ghost use Rattle.card.specs.Card.{isCard};
 ghost use Rattle.moves.specs.Move.{sayable};
-ghost use Rattle.moves.specs.Record.{sourceRoom, targetAllows, countAllows, moveSaid, moveAsked, moveTold, recordOf};
+ghost use Rattle.moves.specs.Record.{sourceRoom, targetAllows, countAllows, moveSaid, moveAsked, moveTold, sayableTold, recordOf};
 use card::Card;
 use card::Suit;
 
@@ -139,6 +139,7 @@ fn move_said(kind: u8, from: u8, to: u8, count: u8, code: u8) -> Move
 // The move that a record says, or that it is impossible (30).
 pub fn decode(bytes: &[u8]) -> Decoded
     ensures { λ r. ⌜ moveTold r ≡ moveAsked (now (bytes .entry)) ⌝ }
+    ensures { λ r. ⌜ sayableTold r ≡ true ⌝ }
 {
     if bytes.len() != 5 {
         return Decoded::Impossible;

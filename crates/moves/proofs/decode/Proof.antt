@@ -1,16 +1,18 @@
 -- What `decode` leaves to be shown: the first thing that is impossible, or the move.
-use mathlib.Core.Path.{sym, _∙_, subst}
+use mathlib.Core.Path.{refl, sym, _∙_, subst}
+use native.Mathlib.Omega.{arith}
 use Prim.Native.Nat.{ℕ, _<_, _≤_}
 use lib.ListN.{getD}
 use borrow.Author.Tests.{lt-ltb, not-true, not-false}
 use Rattle.card.proofs.Codes.{is-card}
 use Rattle.moves.proofs.Records.{not-five, no-card, no-source, no-target, no-count, said}
+use Rattle.moves.proofs.Saying.{said-asked}
 use borrow.Author.Needs.{needs}
 use Rattle.moves.proofs.decode.Statement.{statement}
 use Rattle.moves.proofs.decode.Tie as tie
 
 returns : tie.Need-returns
-returns c = not-five (c .before .before .args .bytes .now) (c .if1 .taken)
+returns c = (not-five (c .before .before .args .bytes .now) (c .if1 .taken), refl)
 
 shared-slice-read-kind : tie.Need-shared-slice-read-kind
 shared-slice-read-kind c = search needs
@@ -32,28 +34,28 @@ is-card-requires c κs = search needs
 
 returns-2 : tie.Need-returns-2
 returns-2 c =
-    no-card (c .before .before .before .before .before .before .before .before .before .args .bytes .now) (sym (c .before .is-card .ensures) ∙ not-true _ (c .if2 .taken))
+    (no-card (c .before .before .before .before .before .before .before .before .before .args .bytes .now) (sym (c .before .is-card .ensures) ∙ not-true _ (c .if2 .taken)), refl)
 
 source-room-requires : tie.Need-source-room-requires
 source-room-requires c κs = search needs
 
 returns-3 : tie.Need-returns-3
 returns-3 c =
-    no-source (c .before .before .before .before .before .before .before .before .before .before .before .args .bytes .now) (subst (λ (n : ℕ). n ≤ getD (c .before .before .before .before .before .before .before .before .before .before .before .args .bytes .now) 1 0) (c .before .source-room .ensures) (c .if3 .taken))
+    (no-source (c .before .before .before .before .before .before .before .before .before .before .before .args .bytes .now) (subst (λ (n : ℕ). n ≤ getD (c .before .before .before .before .before .before .before .before .before .before .before .args .bytes .now) 1 0) (c .before .source-room .ensures) (c .if3 .taken)), refl)
 
 target-allows-requires : tie.Need-target-allows-requires
 target-allows-requires c κs = search needs
 
 returns-4 : tie.Need-returns-4
 returns-4 c =
-    no-target (c .before .before .before .before .before .before .before .before .before .before .before .before .before .args .bytes .now) (sym (c .before .target-allows .ensures) ∙ not-true _ (c .if4 .taken))
+    (no-target (c .before .before .before .before .before .before .before .before .before .before .before .before .before .args .bytes .now) (sym (c .before .target-allows .ensures) ∙ not-true _ (c .if4 .taken)), refl)
 
 count-allows-requires : tie.Need-count-allows-requires
 count-allows-requires c κs = search needs
 
 returns-5 : tie.Need-returns-5
 returns-5 c =
-    no-count (c .before .before .before .before .before .before .before .before .before .before .before .before .before .before .before .args .bytes .now) (sym (c .before .count-allows .ensures) ∙ not-true _ (c .if5 .taken))
+    (no-count (c .before .before .before .before .before .before .before .before .before .before .before .before .before .before .before .args .bytes .now) (sym (c .before .count-allows .ensures) ∙ not-true _ (c .if5 .taken)), refl)
 
 move-said-requires : tie.Need-move-said-requires
 move-said-requires c κs =
@@ -61,7 +63,8 @@ move-said-requires c κs =
 
 returns-6 : tie.Need-returns-6
 returns-6 c =
-    said (c .before .before .before .before .before .before .before .before .before .before .before .before .before .before .before .before .args .bytes .now) (c .before .before .before .before .before .before .before .before .before .before .before .before .before .before .if1 .left) (sym (c .before .before .before .before .before .before .before .before .is-card .ensures) ∙ not-false _ (c .before .before .before .before .before .before .before .if2 .left)) (lt-ltb _ _ (subst (λ (n : ℕ). getD (c .before .before .before .before .before .before .before .before .before .before .before .before .before .before .before .before .args .bytes .now) 1 0 < n) (c .before .before .before .before .before .before .source-room .ensures) (c .before .before .before .before .before .if3 .left))) (sym (c .before .before .before .before .target-allows .ensures) ∙ not-false _ (c .before .before .before .if4 .left)) (sym (c .before .before .count-allows .ensures) ∙ not-false _ (c .before .if5 .left)) (c .move-said .ensures)
+    let e = said (c .before .before .before .before .before .before .before .before .before .before .before .before .before .before .before .before .args .bytes .now) (c .before .before .before .before .before .before .before .before .before .before .before .before .before .before .if1 .left) (sym (c .before .before .before .before .before .before .before .before .is-card .ensures) ∙ not-false _ (c .before .before .before .before .before .before .before .if2 .left)) (lt-ltb _ _ (subst (λ (n : ℕ). getD (c .before .before .before .before .before .before .before .before .before .before .before .before .before .before .before .before .args .bytes .now) 1 0 < n) (c .before .before .before .before .before .before .source-room .ensures) (c .before .before .before .before .before .if3 .left))) (sym (c .before .before .before .before .target-allows .ensures) ∙ not-false _ (c .before .before .before .if4 .left)) (sym (c .before .before .count-allows .ensures) ∙ not-false _ (c .before .if5 .left)) (c .move-said .ensures) in
+    (e, said-asked (c .before .before .before .before .before .before .before .before .before .before .before .before .before .before .before .before .args .bytes .now) (omega (arith, c .before .before .before .before .before .before .before .before .before .before .shared-slice-known5 .given 3)) e)
 
 pub decode-spec : {M : Type 1} → statement M
 decode-spec =
