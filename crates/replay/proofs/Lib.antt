@@ -1,0 +1,4 @@
+-- Laws for the crates above.
+pub mod Stepping
+pub mod Lining
+pub mod Replaying

@@ -1,0 +1,112 @@
+-- One move on a board: its answer, and the board after it is well formed again.
+use mathlib.Core.Path.{_≡_, refl, sym, ap, _∙_, subst}
+use mathlib.Core.Bool.{Bool, true, false}
+use mathlib.Core.List.{List}
+use Prim.Native.Nat.{ℕ, _≤_}
+use native.Mathlib.Omega.{arith}
+use Rattle.card.specs.Words.{occurs}
+use Rattle.card.specs.Answer.{Answer, given, refused, unless}
+use Rattle.card.proofs.Words.{length-listed}
+use Rattle.board.specs.Table.{Table, cardsOn}
+use Rattle.board.specs.Judged.{Verdict, fine, wellFormed}
+use Rattle.board.specs.Record.{columnAt, shown, boardOf}
+use Rattle.board.specs.Refusal.{numberOf, examinedTold}
+use Rattle.board.specs.Inner.{Sound}
+use Rattle.board.specs.declared.Board.{Board}
+use Rattle.board.specs.declared.Refusal.{Refusal}
+use Rattle.board.specs.declared.Examined.{Examined}
+use Rattle.board.specs.declared.Examined.the-variants.{WellFormed, Refused}
+use Rattle.board.proofs.Judging.{good-shape}
+use Rattle.board.proofs.Soundness.{sound, sound-shape, sound-fine, fair, fine-fair}
+use Rattle.board.proofs.Fitting.{fits}
+use Rattle.board.proofs.Records.{Laid, record-of-shown, shown-of-record, fine-of-record, sized-of-record}
+use Rattle.moves.specs.Move.{sayable}
+use Rattle.moves.specs.Record.{moveAsked, moveTold}
+use Rattle.moves.specs.Play.{afterMove, played, allowed}
+use Rattle.moves.specs.declared.Move.{Move}
+use Rattle.moves.specs.declared.Decoded.{Decoded}
+use Rattle.moves.specs.declared.Decoded.the-variants.{Is, Impossible}
+use Rattle.moves.proofs.Allowing.{allowed-keeps}
+use Rattle.moves.proofs.Fairness.{Fair, fair-after}
+use Rattle.moves.proofs.Deciding.{played-is}
+use Rattle.play.specs.Change.{Becomes}
+use Rattle.replay.specs.Step.{recorded, playedOn, stepped}
+use Rattle.replay.specs.Handed.{verdictOf, boardOr, Moves}
+use Rattle.replay.specs.declared.Moved.{Moved}
+
+-- ---- what is handed back
+
+module _ {b : Board} {a : Answer Board} where
+  pub moves-yes : {c : Board} → a ≡ given c → Moves b a (record { said = WellFormed; board = c })
+  moves-yes e = record { said = ap verdictOf (sym e); board = ap (boardOr b) (sym e) }
+
+  pub moves-no : {why : Refusal} → a ≡ refused (numberOf why) → Moves b a (record { said = Refused why; board = b })
+  moves-no e = record { said = ap verdictOf (sym e); board = ap (boardOr b) (sym e) }
+
+-- and what that says of the answer
+module _ {b : Board} where
+  pub said-yes : (a : Answer Board) {r : Moved} → Moves b a r → r .said ≡ WellFormed → a ≡ given (r .board)
+  said-yes (given c) m e = ap (λ (d : Board). given d) (sym (m .board))
+  said-yes (refused n) m e =
+      let q : fine ≡ refused n = ap examinedTold (sym e) ∙ m .said in
+      let z : _≡_ {A = ℕ} 0 1 = cc in absurd (let w : ⊥ = omega arith in w)
+
+  pub said-no : (a : Answer Board) {r : Moved} {why : Refusal} → Moves b a r → r .said ≡ Refused why → (a ≡ refused (numberOf why)) × (r .board ≡ b)
+  said-no (given c) {r} {why} m e =
+      let q : refused (numberOf why) ≡ fine = ap examinedTold (sym e) ∙ m .said in
+      let z : _≡_ {A = ℕ} 0 1 = cc in absurd (let w : ⊥ = omega arith in w)
+  said-no (refused n) {r} {why} m e =
+      let q : refused (numberOf why) ≡ verdictOf (refused n) = ap examinedTold (sym e) ∙ m .said in
+      (let k : numberOf why ≡ n = cc in ap (λ (i : ℕ). refused i) (sym k), m .board)
+
+-- ---- a move on a board
+
+module _ (b : Board) (m : Move) where
+  pub made-yes : allowed (shown b) m ≡ true → recorded (played (shown b) m) ≡ given (boardOf (afterMove (shown b) m))
+  made-yes e = ap recorded (played-is (shown b) m ∙ ap (λ (ok : Bool). unless ok 30 (given (afterMove (shown b) m))) e)
+
+  pub made-no : allowed (shown b) m ≡ false → recorded (played (shown b) m) ≡ refused 30
+  made-no e = ap recorded (played-is (shown b) m ∙ ap (λ (ok : Bool). unless ok 30 (given (afterMove (shown b) m))) e)
+
+  module _ (bytes : List ℕ) {r : Decoded} (e : moveTold r ≡ moveAsked bytes) where
+    pub step-said : r ≡ Is m → recorded (played (shown b) m) ≡ stepped b bytes
+    unfolding stepped
+    step-said q = ap (playedOn b) (ap moveTold (sym q) ∙ e)
+
+pub step-none : (b : Board) (bytes : List ℕ) {r : Decoded} → moveTold r ≡ moveAsked bytes → r ≡ Impossible → stepped b bytes ≡ refused 30
+unfolding stepped
+step-none b bytes e q = ap (playedOn b) (sym (ap moveTold (sym q) ∙ e))
+
+-- the bytes follow from what is shown
+pub became : {r : Board} {t : Table} → Becomes r t → boardOf t ≡ r
+became {r} s = ap boardOf (sym (s .shows)) ∙ record-of-shown r (s .good)
+
+-- ---- a well-formed board, and the one after an allowed move
+
+fair-board : (b : Board) → Sound b → Fair (shown b)
+unfolding shown
+fair-board b s =
+    record {
+      seats = record { four = s .inCells .four; piles4 = s .inPiles .four; eight = length-listed (columnAt (b .counts) (b .tableau)) 8 };
+      piles = s .inPiles;
+      well = fine-fair (shown b) (sym (good-shape b (sound-shape s)) ∙ sound-fine s);
+    }
+
+fair-laid : (t : Table) → Fair t → Laid t
+fair-laid t f = fits t (f .seats .four) (f .piles) (f .seats .eight) (fair t (f .well))
+
+fair-sound : (t : Table) → Fair t → Sound (boardOf t)
+fair-sound t f = let l = fair-laid t f in sound (boardOf t) (sized-of-record t l) (fine-of-record t l (fair t (f .well)))
+
+module _ (b : Board) (s : Sound b) (m : Move) (said : sayable m ≡ true) (ok : allowed (shown b) m ≡ true) where
+  fair-then : Fair (afterMove (shown b) m)
+  fair-then = fair-after (shown b) m (fair-board b s) said ok
+
+  pub sound-after : Sound (boardOf (afterMove (shown b) m))
+  sound-after = fair-sound (afterMove (shown b) m) fair-then
+
+  -- the same cards lie on it
+  pub cards-after : (x : ℕ) → occurs x (cardsOn (shown (boardOf (afterMove (shown b) m)))) ≡ occurs x (cardsOn (shown b))
+  cards-after x =
+      ap (λ (t : Table). occurs x (cardsOn t)) (shown-of-record (afterMove (shown b) m) (fair-laid (afterMove (shown b) m) fair-then))
+      ∙ allowed-keeps (shown b) m (fair-board b s .seats) said ok x

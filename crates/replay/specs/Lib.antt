@@ -1,0 +1,4 @@
+-- Read these in this order.
+pub mod Step
+pub mod Line
+pub mod Handed
