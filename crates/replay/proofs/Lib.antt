@@ -2,3 +2,5 @@
 pub mod Stepping
 pub mod Lining
 pub mod Replaying
+pub mod Keeping
+pub mod Unique
