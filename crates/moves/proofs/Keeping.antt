@@ -44,7 +44,7 @@ module _ (x : ℕ) where
       omega arith
 
 -- a sum of which one term changes
-sum-changed : (f g : ℕ → ℕ) (n j : ℕ) → j < n → ((k : ℕ) → k < n → (k ≡ j → ⊥) → f k ≡ g k) → sum n f + g j ≡ sum n g + f j
+pub sum-changed : (f g : ℕ → ℕ) (n j : ℕ) → j < n → ((k : ℕ) → k < n → (k ≡ j → ⊥) → f k ≡ g k) → sum n f + g j ≡ sum n g + f j
 unfolding sum
 sum-changed f g zero j h e = absurd (not-suc-le-zero h)
 sum-changed f g (suc n) j h e = here-or-before (sum-changed f g n j) (ℕ-discrete j n)
@@ -105,7 +105,7 @@ put-keeps x t (home i) l s e h =
     let q = ap (occurs x) h in
     simp occurs-append (omega arith)
 
-others-and-last : (n : ℕ) (l : List ℕ) → othersOf n l ++ lastOf n l ≡ l
+pub others-and-last : (n : ℕ) (l : List ℕ) → othersOf n l ++ lastOf n l ≡ l
 unfolding othersOf lastOf
 others-and-last n l = take-append-drop (length l - n) l
 

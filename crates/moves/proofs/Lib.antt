@@ -3,5 +3,6 @@ pub mod Saying
 pub mod Keeping
 pub mod Allowing
 pub mod Fairness
+pub mod Totals
 pub mod Deciding
 pub mod Unique

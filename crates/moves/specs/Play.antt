@@ -120,3 +120,11 @@ allowed t m =
     && (eqb (getD (hand t m) 0 0) (codeOf (card m))
     && (withinLimit t (from m) (to m) (count m)
     && (isRun (hand t m) && takes t (to m) (codeOf (card m)))))))
+
+-- ---- what the laws speak of
+
+-- 1 for a foundation, 0 for a column or a cell
+abbrev pub homeward : Place → ℕ
+homeward (column i) = 0
+homeward (cell i) = 0
+homeward (home s) = 1
