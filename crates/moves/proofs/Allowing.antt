@@ -9,7 +9,7 @@ use native.Mathlib.Decide.{ℕ-discrete}
 use borrow.Author.Tests.{eqb-true, leb-true, ltb-true, eq-eqb, ne-eqb, lt-ltb}
 use lib.Dec.{eqb, leb, ltb}
 use lib.ListN.{length, getD, take, drop, set, length-take, length-drop, length-append, take-append-drop}
-use lib.Seq.{ext-getD, getD-take}
+use lib.Seq.{ext-getD, getD-take, getD-drop}
 use Rattle.card.specs.Words.{every, all, occurs, listed, concat, sum}
 use Rattle.card.specs.Suit.{suitNumber}
 use Rattle.card.specs.Card.{isCard, isValue, codeOf}
@@ -69,6 +69,10 @@ allowed-is t m e0 =
 pub last-length : (n : ℕ) (l : List ℕ) → n ≤ length l → length (lastOf n l) ≡ n
 unfolding lastOf
 last-length n l h = length-drop (length l - n) l ∙ (let q : length l - (length l - n) ≡ n = omega arith in q)
+
+pub last-first : (n : ℕ) (l : List ℕ) → getD (lastOf n l) 0 0 ≡ getD l (length l - n) 0
+unfolding lastOf
+last-first n l = getD-drop (length l - n) l 0 0 ∙ ap (λ (k : ℕ). getD l k 0) (let q : length l - n + 0 ≡ length l - n = omega arith in q)
 
 single : (l : List ℕ) → length l ≡ 1 → l ≡ getD l 0 0 ∷ []
 single [] e = absurd (let z : ⊥ = omega arith in z)

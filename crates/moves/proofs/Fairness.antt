@@ -149,6 +149,11 @@ pub record Fair (t : Table) : Type 0 where
   pub piles : GoodPiles (t .foundation)
   pub well : wellFormed t ≡ true
 
+-- only cards lie at its places
+pub fair-cards : (t : Table) (p : Place) → Fair t → isPlace p ≡ true → all isCard (there t p) ≡ true
+unfolding wellFormed
+fair-cards t p f e = there-cards t p (f .seats) (f .piles) (first (onlyCards t) _ (f .well)) e
+
 pub fair-after : (t : Table) (m : Move) → Fair t → sayable m ≡ true → allowed t m ≡ true → Fair (afterMove t m)
 unfolding sayable wellFormed afterMove without hand lastOf othersOf
 fair-after t m f e w =

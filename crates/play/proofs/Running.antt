@@ -49,7 +49,7 @@ module _ (b : Board) (s d n : ℕ) (c : Card) (sound : Sound b) (said : sayable 
 
     -- the deepest card of the hand
     module _ (enough : n ≤ w) where
-      deepest : getD (hand (shown b) (TableauToTableau s d n c)) 0 0 ≡ getD (b .tableau) (s * 52 + (w - n)) 0
+      pub deepest : getD (hand (shown b) (TableauToTableau s d n c)) 0 0 ≡ getD (b .tableau) (s * 52 + (w - n)) 0
       unfolding hand lastOf
       deepest =
           let l = lie in

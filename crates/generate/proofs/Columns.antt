@@ -1,0 +1,138 @@
+-- Runs from column to column: allowed no further than the run and the limit reach, and there decided by the fit.
+use mathlib.Core.Path.{_≡_, refl, sym, ap, _∙_, subst}
+use mathlib.Core.Bool.{Bool, true, false, cond, not}
+use mathlib.Core.List.{List, [], _∷_}
+use Prim.Native.Nat.{ℕ, suc, min, _+_, _-_, _*_, _<_, _≤_}
+use native.Mathlib.Numerals.{add-one}
+use native.Mathlib.Omega.{arith}
+use borrow.Author.Tests.{eq-eqb, leb-true}
+use lib.ListN.{length, getD}
+use Rattle.card.specs.Words.{all, listed}
+use Rattle.card.specs.Card.{isCard, cardOf}
+use Rattle.card.specs.declared.Card.{Card}
+use Rattle.card.proofs.Words.{not-so}
+use Rattle.card.proofs.Codes.{code-card, value-of-card}
+use Rattle.board.specs.Table.{Table}
+use Rattle.board.specs.Record.{columnAt, shown}
+use Rattle.board.specs.Inner.{Sound}
+use Rattle.board.specs.declared.Board.{Board}
+use Rattle.board.proofs.Soundness.{column-length}
+use Rattle.questions.proofs.Asking.{shown-column}
+use Rattle.rules.specs.Fit.{fitsOn}
+use Rattle.rules.specs.Run.{runLength}
+use Rattle.rules.specs.Limit.{mostMoved}
+use Rattle.rules.proofs.Laying.{run-top, run-at-most, run-13}
+use Rattle.moves.specs.Move.{column, sayable}
+use Rattle.moves.specs.Play.{there, lastOf, hand, allowed}
+use Rattle.moves.specs.declared.Move.{Move}
+use Rattle.moves.specs.declared.Move.the-variants.{TableauToTableau}
+use Rattle.moves.proofs.Allowing.{allowed-is}
+use Rattle.moves.proofs.Deciding.{deny-away}
+use Rattle.play.proofs.Running.{deepest, run-decides}
+use Rattle.generate.specs.Found.{offered, ifAllowed, gather, foundBetween}
+use Rattle.generate.specs.declared.Way.the-variants.{ColumnToColumn}
+use Rattle.generate.proofs.Gathering.{gather-end, gather-nothing}
+use Rattle.generate.proofs.Places.{cards-there}
+use Rattle.generate.proofs.Offering.{if-allowed, said-way}
+
+-- ---- any table
+
+pub record Within (t : Table) (s d n : ℕ) : Type 0 where
+  pub run : n ≤ runLength (there t (column s))
+  pub limit : n ≤ mostMoved (t .cells) (t .columns) d
+
+pub run-bounds : (t : Table) (s d n : ℕ) (c : Card) → 1 ≤ n → allowed t (TableauToTableau s d n c) ≡ true → Within t s d n
+unfolding hand lastOf
+run-bounds t s d n c one e =
+    let a = allowed-is t (TableauToTableau s d n c) e in
+    let l = there t (column s) in
+    let enough = a .enough in
+    let r = leb-true (length l - (length l - n)) (runLength l) (sym (run-top l (length l - n) (omega arith)) ∙ a .run) in
+    record { run = omega arith; limit = leb-true n (mostMoved (t .cells) (t .columns) d) (a .limit) }
+
+-- the run of k + 1 cards, if it is allowed
+abbrev pub tried : Table → ℕ → ℕ → ℕ → List Move
+tried t i j k = ifAllowed t (offered t ColumnToColumn i j (suc k))
+
+module _ (t : Table) (i j : ℕ) where
+  pub own-column : i ≡ j → foundBetween t ColumnToColumn i j ≡ []
+  unfolding foundBetween offered
+  own-column q =
+      gather-nothing (tried t i j) 13
+      (λ k h. if-allowed t (offered t ColumnToColumn i j (suc k)) false (deny-away t (offered t ColumnToColumn i j (suc k)) (ap not (eq-eqb i j q))))
+
+  past : (k : ℕ) → min (runLength (there t (column i))) (mostMoved (t .cells) (t .columns) j) ≤ k → tried t i j k ≡ []
+  unfolding offered
+  past k h =
+      if-allowed t (offered t ColumnToColumn i j (suc k)) false
+      (not-so (allowed t (offered t ColumnToColumn i j (suc k)))
+      (λ e. let b = run-bounds t i j (suc k) (cardOf (getD (lastOf (suc k) (there t (column i))) 0 0)) (omega arith) e in let z : ⊥ = omega arith in z))
+
+  -- no run has more than 13 cards, where there are only cards
+  pub runs-end : all isCard (there t (column i)) ≡ true
+      → foundBetween t ColumnToColumn i j ≡ gather (min (runLength (there t (column i))) (mostMoved (t .cells) (t .columns) j)) (tried t i j)
+  unfolding foundBetween
+  runs-end cards =
+      let most = run-13 (there t (column i)) cards in
+      gather-end (tried t i j) (min (runLength (there t (column i))) (mostMoved (t .cells) (t .columns) j)) 13 (omega arith) (λ k a b. past k a)
+
+-- ---- a record
+
+shown-most : (b : Board) (j : ℕ) → mostMoved (b .cells) (listed 8 (columnAt (b .counts) (b .tableau))) j ≡ mostMoved (shown b .cells) (shown b .columns) j
+unfolding shown
+shown-most b j = refl
+
+module _ {b : Board} (sound : Sound b) (i j : ℕ) (hi : i < 8) where
+  pub runs-of : {u v last : ℕ} → u ≡ runLength (columnAt (b .counts) (b .tableau) i) → v ≡ mostMoved (b .cells) (listed 8 (columnAt (b .counts) (b .tableau))) j
+      → last ≡ min u v → foundBetween (shown b) ColumnToColumn i j ≡ gather last (tried (shown b) i j)
+  runs-of {u} {v} {last} p q e =
+      let s = p ∙ ap runLength (shown-column b i hi) in
+      let m = q ∙ shown-most b j in
+      runs-end (shown b) i j (cards-there sound ColumnToColumn i hi)
+      ∙ ap (λ (n : ℕ). gather n (tried (shown b) i j)) (omega arith)
+
+  pub runs-room : {u v last : ℕ} → u ≡ runLength (columnAt (b .counts) (b .tableau) i) → v ≡ mostMoved (b .cells) (listed 8 (columnAt (b .counts) (b .tableau))) j
+      → last ≡ min u v → (n : ℕ) {lent : ℕ} → (n + length (foundBetween (shown b) ColumnToColumn i j)) * 5 ≤ lent → (n + length (gather last (tried (shown b) i j))) * 5 ≤ lent
+  runs-room p q e n {lent} h = subst (λ (l : List Move). (n + length l) * 5 ≤ lent) (runs-of p q e) h
+
+  pub run-short : {k : ℕ} → k < runLength (columnAt (b .counts) (b .tableau) i) → k < 52
+  run-short h =
+      let l = column-length (sound .inColumns) i hi in
+      let r = run-at-most (columnAt (b .counts) (b .tableau) i) in
+      let m = sound .inColumns .within i hi in
+      omega arith
+
+  module _ (k w : ℕ) (hj : j < 8) (other : i ≡ j → ⊥) (e : w ≡ getD (b .counts) i 0)
+      (long : k < runLength (columnAt (b .counts) (b .tableau) i)) (few : k < mostMoved (b .cells) (listed 8 (columnAt (b .counts) (b .tableau))) j) where
+    abbrev code : ℕ
+    code = getD (b .tableau) (i * 52 + (w - (k + 1))) 0
+
+    pub run-there : k + 1 ≤ w
+    run-there = let l = column-length (sound .inColumns) i hi in let r = run-at-most (columnAt (b .counts) (b .tableau) i) in omega arith
+
+    pub code-there : isCard code ≡ true
+    code-there = let r = run-there in sound .inColumns .codes i (w - (k + 1)) hi (omega arith)
+
+    said : sayable (TableauToTableau i j (k + 1) (cardOf code)) ≡ true
+    said =
+        let r = run-there in
+        let l = sound .inColumns .within i hi in
+        said-way ColumnToColumn i j (k + 1) (cardOf code) hi hj (omega arith) (omega arith) (value-of-card code code-there)
+
+    offered-is : offered (shown b) ColumnToColumn i j (suc k) ≡ TableauToTableau i j (k + 1) (cardOf code)
+    unfolding offered hand
+    offered-is =
+        ap (λ (n : ℕ). TableauToTableau i j n (cardOf (getD (lastOf n (there (shown b) (column i))) 0 0))) (sym (add-one k))
+        ∙ ap (λ (x : ℕ). TableauToTableau i j (k + 1) (cardOf x)) (deepest b i j (k + 1) (cardOf code) sound said w e run-there)
+
+    pub run-said : {c : Card} → c ≡ cardOf code → sayable (TableauToTableau i j (k + 1) c) ≡ true
+    run-said q = subst (λ (c : Card). sayable (TableauToTableau i j (k + 1) c) ≡ true) (sym q) said
+
+    pub run-found : {r s : Bool} → r ≡ fitsOn (columnAt (b .counts) (b .tableau) j) code → r ≡ s
+        → tried (shown b) i j k ≡ cond s (TableauToTableau i j (k + 1) (cardOf code) ∷ []) []
+    run-found {r} {s} f q =
+        ap (ifAllowed (shown b)) offered-is
+        ∙ if-allowed (shown b) (TableauToTableau i j (k + 1) (cardOf code)) s
+        (sym
+        (run-decides b i j (k + 1) (cardOf code) sound said w e run-there other (sym (code-card code code-there)) refl
+        refl (omega arith) refl (omega arith) (sym q ∙ f)))

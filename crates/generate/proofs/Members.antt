@@ -1,0 +1,141 @@
+-- The moves found are exactly the allowed moves of their kind.
+use mathlib.Core.Path.{_≡_, refl, sym, ap, _∙_, subst}
+use mathlib.Core.Bool.{Bool, true, false, cond}
+use mathlib.Core.List.{[], _∷_}
+use mathlib.Core.Logic.{inl, inr}
+use Prim.Native.Nat.{ℕ, suc, _-_, _<_, _≤_}
+use native.Mathlib.Omega.{arith}
+use borrow.Author.Tests.{ltb-true}
+use lib.ListN.{getD}
+use Rattle.card.specs.Suit.{suitNumber}
+use Rattle.card.specs.Card.{cardOf}
+use Rattle.card.specs.declared.Suit.{Suit}
+use Rattle.card.specs.declared.Card.{Card}
+use Rattle.card.proofs.Codes.{suit-below, suit-at-number, card-code}
+use Rattle.board.specs.Table.{Table}
+use Rattle.rules.proofs.Laying.{run-13}
+use Rattle.moves.specs.Move.{Place, column, from, count, card, sayable}
+use Rattle.moves.specs.Play.{there, lastOf, hand, allowed}
+use Rattle.moves.specs.declared.Move.{Move}
+use Rattle.moves.specs.declared.Move.the-variants.{TableauToTableau, TableauToFoundation, TableauToFreeCell, FreeCellToTableau, FreeCellToFoundation, FoundationToTableau}
+use Rattle.moves.proofs.Records.{said-from, said-to, said-count}
+use Rattle.moves.proofs.Allowing.{allowed-is}
+use Rattle.moves.proofs.Fairness.{Fair, fair-cards}
+use Rattle.generate.specs.Found.{sourceCount, source, targetCount, lengthCount, moveFrom, offered, ifAllowed, foundBetween, foundFrom, found, wayOf, isIn}
+use Rattle.generate.specs.declared.Way.{Way}
+use Rattle.generate.specs.declared.Way.the-variants.{ColumnToColumn, ColumnToHome, ColumnToCell, CellToColumn, CellToHome, HomeToColumn}
+use Rattle.generate.proofs.Gathering.{gather-in, gather-by}
+use Rattle.generate.proofs.Offering.{if-allowed}
+use Rattle.generate.proofs.Columns.{run-bounds}
+
+-- ---- a move that is found is allowed, and of its kind
+
+kind-of : (w : Way) (i j n : ℕ) (c : Card) → wayOf (moveFrom w i j n c) ≡ w
+kind-of ColumnToColumn i j n c = refl
+kind-of ColumnToHome i j n c = refl
+kind-of ColumnToCell i j n c = refl
+kind-of CellToColumn i j n c = refl
+kind-of CellToHome i j n c = refl
+kind-of HomeToColumn i j n c = refl
+
+one-allowed : (t : Table) (w : Way) (m x : Move) → wayOf x ≡ w → isIn m (ifAllowed t x) → (allowed t m ≡ true) × (wayOf m ≡ w)
+unfolding ifAllowed
+one-allowed t w m x k i = by-test (allowed t x) refl i
+  where
+    by-test : (a : Bool) → allowed t x ≡ a → isIn m (cond a (x ∷ []) []) → (allowed t m ≡ true) × (wayOf m ≡ w)
+    by-test true e (inl q) = (ap (allowed t) q ∙ e, ap wayOf q ∙ k)
+    by-test true e (inr z) = absurd z
+    by-test false e z = absurd z
+
+pub found-allowed : (t : Table) (w : Way) (m : Move) → isIn m (found t w) → (allowed t m ≡ true) × (wayOf m ≡ w)
+unfolding found foundFrom foundBetween offered
+found-allowed t w m =
+    gather-by m (foundFrom t w) (sourceCount w)
+    (λ i. gather-by m (foundBetween t w i) (targetCount w)
+    (λ j. gather-by m (λ k. ifAllowed t (offered t w i j (suc k))) (lengthCount w)
+    (λ k. one-allowed t w m (offered t w i j (suc k)) (kind-of w i j (suc k) (cardOf (getD (lastOf (suc k) (there t (source w i))) 0 0))))))
+
+-- ---- an allowed move is found
+
+-- the place of a move among those of its kind
+abbrev sourceOf : Move → ℕ
+sourceOf (TableauToTableau s d n c) = s
+sourceOf (TableauToFoundation s c) = s
+sourceOf (TableauToFreeCell s i c) = s
+sourceOf (FreeCellToTableau i d c) = i
+sourceOf (FreeCellToFoundation i c) = i
+sourceOf (FoundationToTableau s d c) = suitNumber s
+
+abbrev targetOf : Move → ℕ
+targetOf (TableauToTableau s d n c) = d
+targetOf (TableauToFoundation s c) = 0
+targetOf (TableauToFreeCell s i c) = i
+targetOf (FreeCellToTableau i d c) = d
+targetOf (FreeCellToFoundation i c) = 0
+targetOf (FoundationToTableau s d c) = d
+
+record Placed (m : Move) : Type 0 where
+  from-where : sourceOf m < sourceCount (wayOf m)
+  to-where : targetOf m < targetCount (wayOf m)
+  comes : source (wayOf m) (sourceOf m) ≡ from m
+  named : moveFrom (wayOf m) (sourceOf m) (targetOf m) (count m) (card m) ≡ m
+
+placed : (m : Move) → sayable m ≡ true → Placed m
+placed (TableauToTableau s d n c) e =
+    record { from-where = ltb-true s 8 (said-from _ e); to-where = ltb-true d 8 (said-to _ e); comes = refl; named = refl }
+placed (TableauToFoundation s c) e =
+    record { from-where = ltb-true s 8 (said-from _ e); to-where = omega arith; comes = refl; named = refl }
+placed (TableauToFreeCell s i c) e =
+    record { from-where = ltb-true s 8 (said-from _ e); to-where = ltb-true i 4 (said-to _ e); comes = refl; named = refl }
+placed (FreeCellToTableau i d c) e =
+    record { from-where = ltb-true i 4 (said-from _ e); to-where = ltb-true d 8 (said-to _ e); comes = refl; named = refl }
+placed (FreeCellToFoundation i c) e =
+    record { from-where = ltb-true i 4 (said-from _ e); to-where = omega arith; comes = refl; named = refl }
+placed (FoundationToTableau s d c) e =
+    record {
+      from-where = suit-below s;
+      to-where = ltb-true d 8 (said-to _ e);
+      comes = refl;
+      named = ap (λ (k : Suit). FoundationToTableau k d c) (suit-at-number s);
+    }
+
+-- no more cards than are tried: a run of cards has at most 13
+few : (t : Table) (m : Move) → Fair t → sayable m ≡ true → allowed t m ≡ true → count m ≤ lengthCount (wayOf m)
+few t (TableauToTableau s d n c) f e a =
+    let cards = fair-cards t (column s) f (said-from (TableauToTableau s d n c) e) in
+    let b = run-bounds t s d n c (said-count (TableauToTableau s d n c) e) a in
+    let most = run-13 (there t (column s)) cards in
+    let r = b .run in
+    omega arith
+few t (TableauToFoundation s c) f e a = omega arith
+few t (TableauToFreeCell s i c) f e a = omega arith
+few t (FreeCellToTableau i d c) f e a = omega arith
+few t (FreeCellToFoundation i c) f e a = omega arith
+few t (FoundationToTableau s d c) f e a = omega arith
+
+-- the move offered there, of so many cards, is the allowed one: it names the card that lies there
+offered-is : (t : Table) (m : Move) (n : ℕ) → n ≡ count m → sayable m ≡ true → allowed t m ≡ true
+    → offered t (wayOf m) (sourceOf m) (targetOf m) n ≡ m
+unfolding offered hand
+offered-is t m n q e a =
+    let p = placed m e in
+    ap (λ (k : ℕ). offered t (wayOf m) (sourceOf m) (targetOf m) k) q
+    ∙ ap (λ (c : Card). moveFrom (wayOf m) (sourceOf m) (targetOf m) (count m) c)
+    (ap (λ (k : Place). cardOf (getD (lastOf (count m) (there t k)) 0 0)) (p .comes) ∙ ap cardOf (allowed-is t m a .named) ∙ card-code (card m))
+    ∙ p .named
+
+-- `Fair` tells that only cards lie in the columns: other codes could make a run of 14
+pub allowed-found : (t : Table) (m : Move) → Fair t → sayable m ≡ true → allowed t m ≡ true → isIn m (found t (wayOf m))
+unfolding found foundFrom foundBetween
+allowed-found t m f e a =
+    let p = placed m e in
+    let w = wayOf m in
+    let i = sourceOf m in
+    let j = targetOf m in
+    let k = count m - 1 in
+    let one = said-count m e in
+    let most = few t m f e a in
+    gather-in m (foundFrom t w) (sourceCount w) i (p .from-where)
+    (gather-in m (foundBetween t w i) (targetCount w) j (p .to-where)
+    (gather-in m (λ k. ifAllowed t (offered t w i j (suc k))) (lengthCount w) k (omega arith)
+    (subst (isIn m) (sym (ap (ifAllowed t) (offered-is t m (suc k) (omega arith) e a) ∙ if-allowed t m true a)) (inl refl))))

@@ -1,0 +1,457 @@
+// The six generators of moves (after freecell/board.rs, `find_..`), in one walk: by source, destination, length.
+ghost use mathlib.Core.Path.{_≡_};
+ghost use mathlib.Core.Bool.{true};
+ghost use mathlib.Core.List.{_∷_, []};
+ghost use Prim.Native.Nat.{suc, min, _+_, _*_, _<_, _≤_};
+ghost use lib.ListN.{length, getD};
+ghost use Rattle.card.specs.Words.{listed};
+ghost use Rattle.card.specs.Card.{isValue, codeOf};
+ghost use Rattle.board.specs.Record.{shown, columnAt};
+ghost use Rattle.board.specs.Table.{pile};
+ghost use Rattle.board.specs.Inner.{GoodPiles, Sound};
+ghost use Rattle.questions.specs.Questions.{topOf};
+ghost use Rattle.questions.specs.declared.Top.the-variants.{Is};
+ghost use Rattle.rules.specs.Run.{runLength};
+ghost use Rattle.rules.specs.Limit.{mostMoved};
+ghost use Rattle.moves.specs.Move.{to, sayable};
+ghost use Rattle.moves.specs.Play.{there, takes};
+ghost use Rattle.generate.specs.Found.{sourceCount, targetCount, source, moveFrom, offered, ifAllowed, foundBetween, foundFrom, found};
+ghost use Rattle.generate.specs.Asked.{Adds, Finds};
+ghost use Rattle.generate.specs.declared.Way.the-variants.{ColumnToColumn, ColumnToHome, ColumnToCell, CellToColumn, CellToHome, HomeToColumn};
+use board::Board;
+use board::Examined;
+use board::Refusal;
+use board::judge::inspect;
+use card::Card;
+use moves::Move;
+use questions::CountAnswer;
+use questions::Top;
+
+// The six kinds of move.
+pub enum Way {
+    ColumnToColumn,
+    ColumnToHome,
+    ColumnToCell,
+    CellToColumn,
+    CellToHome,
+    HomeToColumn,
+}
+
+// How many places a kind of move takes from.
+fn sources(way: Way) -> usize
+    ensures { λ r. ⌜ r ≡ sourceCount way ⌝ }
+{
+    match way {
+        Way::ColumnToColumn => 8,
+        Way::ColumnToHome => 8,
+        Way::ColumnToCell => 8,
+        Way::CellToColumn => 4,
+        Way::CellToHome => 4,
+        Way::HomeToColumn => 4,
+    }
+}
+
+// How many places it can go to.
+fn targets(way: Way) -> usize
+    ensures { λ r. ⌜ r ≡ targetCount way ⌝ }
+{
+    match way {
+        Way::ColumnToColumn => 8,
+        Way::ColumnToHome => 1,
+        Way::ColumnToCell => 4,
+        Way::CellToColumn => 8,
+        Way::CellToHome => 1,
+        Way::HomeToColumn => 8,
+    }
+}
+
+// The move of one card.
+fn move_from(way: Way, i: usize, j: usize, card: Card) -> Move
+    requires { ⌜ i < sourceCount way ⌝ }
+    ensures { λ r. ⌜ r ≡ moveFrom way i j 1 card ⌝ }
+{
+    match way {
+        Way::ColumnToColumn => Move::TableauToTableau {
+            source: i,
+            destination: j,
+            count: 1,
+            card,
+        },
+        Way::ColumnToHome => Move::TableauToFoundation { source: i, card },
+        Way::ColumnToCell => Move::TableauToFreeCell {
+            source: i,
+            cell_index: j,
+            card,
+        },
+        Way::CellToColumn => Move::FreeCellToTableau {
+            cell_index: i,
+            destination: j,
+            card,
+        },
+        Way::CellToHome => Move::FreeCellToFoundation {
+            cell_index: i,
+            card,
+        },
+        Way::HomeToColumn => {
+            let s = i as u8;
+            let suit = card::suit_at(s);
+            Move::FoundationToTableau {
+                suit,
+                destination: j,
+                card,
+            }
+        }
+    }
+}
+
+// The top of a foundation.
+fn home_at(foundation: &[u8; 4], i: usize) -> Top
+    requires { ⌜ GoodPiles (now foundation) ⌝ }
+    requires { ⌜ i < 4 ⌝ }
+    ensures { λ r. ⌜ r ≡ topOf (pile i (getD (now (foundation .entry)) i 0)) ⌝ }
+{
+    let value = foundation[i];
+    if value == 0 {
+        return Top::Empty;
+    }
+    let s = i as u8;
+    let suit = card::suit_at(s);
+    Top::Is(Card { suit, value })
+}
+
+// The last card at the place that a kind of move takes from.
+fn card_at<'a>(
+    way: Way,
+    cells: &'a [u8; 4],
+    foundation: &'a [u8; 4],
+    counts: &'a [u8; 8],
+    tableau: &'a [u8; 416],
+    i: usize,
+) -> Top
+    requires { ⌜ Sound (record { cells = now cells; foundation = now foundation; counts = now counts; tableau = now tableau }) ⌝ }
+    requires { ⌜ i < sourceCount way ⌝ }
+    ensures { λ r. ⌜ r ≡ topOf (there (shown (record { cells = now (cells .entry); foundation = now (foundation .entry); counts = now (counts .entry); tableau = now (tableau .entry) })) (source way i)) ⌝ }
+{
+    match way {
+        Way::ColumnToColumn => questions::top_at(counts, tableau, i),
+        Way::ColumnToHome => questions::top_at(counts, tableau, i),
+        Way::ColumnToCell => questions::top_at(counts, tableau, i),
+        Way::CellToColumn => questions::cell_at(cells, i),
+        Way::CellToHome => questions::cell_at(cells, i),
+        Way::HomeToColumn => home_at(foundation, i),
+    }
+}
+
+// The place that a kind of move goes to takes the card.
+fn takes_at<'a>(
+    way: Way,
+    cells: &'a [u8; 4],
+    foundation: &'a [u8; 4],
+    counts: &'a [u8; 8],
+    tableau: &'a [u8; 416],
+    i: usize,
+    j: usize,
+    card: Card,
+) -> bool
+    requires { ⌜ Sound (record { cells = now cells; foundation = now foundation; counts = now counts; tableau = now tableau }) ⌝ }
+    requires { ⌜ j < targetCount way ⌝ }
+    requires { ⌜ isValue (card .value) ≡ true ⌝ }
+    ensures { λ r. ⌜ r ≡ takes (shown (record { cells = now (cells .entry); foundation = now (foundation .entry); counts = now (counts .entry); tableau = now (tableau .entry) })) (to (moveFrom way i j 1 card)) (codeOf card) ⌝ }
+{
+    let code = card::code_of(card);
+    match way {
+        Way::ColumnToColumn => rules::fit_at(counts, tableau, j, code),
+        Way::ColumnToHome => rules::home_takes(foundation, code),
+        Way::ColumnToCell => cells[j] == 255,
+        Way::CellToColumn => rules::fit_at(counts, tableau, j, code),
+        Way::CellToHome => rules::home_takes(foundation, code),
+        Way::HomeToColumn => rules::fit_at(counts, tableau, j, code),
+    }
+}
+
+// One record more.
+fn write(out: &mut [u8], n: usize, m: Move) -> usize
+    requires { ⌜ sayable m ≡ true ⌝ }
+    requires { ⌜ (n + 1) * 5 ≤ length (now out) ⌝ }
+    ensures { λ r. ⌜ Adds (now (out .entry)) (now (out .exit)) n r (m ∷ []) ⌝ }
+{
+    let bytes = moves::encode(m);
+    let at = n * 5;
+    out[at] = bytes[0];
+    out[at + 1] = bytes[1];
+    out[at + 2] = bytes[2];
+    out[at + 3] = bytes[3];
+    out[at + 4] = bytes[4];
+    n + 1
+}
+
+// The move of one card between two places, if it is allowed; the card is the last at its place.
+fn offer<'a>(
+    way: Way,
+    cells: &'a [u8; 4],
+    foundation: &'a [u8; 4],
+    counts: &'a [u8; 8],
+    tableau: &'a [u8; 416],
+    i: usize,
+    j: usize,
+    card: Card,
+    out: &mut [u8],
+    n: usize,
+) -> usize
+    requires { ⌜ Sound (record { cells = now cells; foundation = now foundation; counts = now counts; tableau = now tableau }) ⌝ }
+    requires { ⌜ (way ≡ ColumnToColumn → ⊥) ⌝ }
+    requires { ⌜ i < sourceCount way ⌝ }
+    requires { ⌜ j < targetCount way ⌝ }
+    requires { ⌜ topOf (there (shown (record { cells = now cells; foundation = now foundation; counts = now counts; tableau = now tableau })) (source way i)) ≡ Is card ⌝ }
+    requires { ⌜ (n + length (foundBetween (shown (record { cells = now cells; foundation = now foundation; counts = now counts; tableau = now tableau })) way i j)) * 5 ≤ length (now out) ⌝ }
+    ensures { λ r. ⌜ Adds (now (out .entry)) (now (out .exit)) n r (foundBetween (shown (record { cells = now (cells .entry); foundation = now (foundation .entry); counts = now (counts .entry); tableau = now (tableau .entry) })) way i j) ⌝ }
+{
+    if takes_at(way, cells, foundation, counts, tableau, i, j, card) {
+        return write(out, n, move_from(way, i, j, card));
+    }
+    n
+}
+
+// The moves of one card from a place.
+fn from_place<'a>(
+    way: Way,
+    cells: &'a [u8; 4],
+    foundation: &'a [u8; 4],
+    counts: &'a [u8; 8],
+    tableau: &'a [u8; 416],
+    i: usize,
+    out: &mut [u8],
+    n: usize,
+) -> usize
+    requires { ⌜ Sound (record { cells = now cells; foundation = now foundation; counts = now counts; tableau = now tableau }) ⌝ }
+    requires { ⌜ (way ≡ ColumnToColumn → ⊥) ⌝ }
+    requires { ⌜ i < sourceCount way ⌝ }
+    requires { ⌜ (n + length (foundFrom (shown (record { cells = now cells; foundation = now foundation; counts = now counts; tableau = now tableau })) way i)) * 5 ≤ length (now out) ⌝ }
+    ensures { λ r. ⌜ Adds (now (out .entry)) (now (out .exit)) n r (foundFrom (shown (record { cells = now (cells .entry); foundation = now (foundation .entry); counts = now (counts .entry); tableau = now (tableau .entry) })) way i) ⌝ }
+{
+    let Top::Is(card) = card_at(way, cells, foundation, counts, tableau, i) else {
+        return n;
+    };
+    let last = targets(way);
+    let mut made = n;
+    let mut j = 0;
+    while j < last {
+        made = offer(
+            way,
+            cells,
+            foundation,
+            counts,
+            tableau,
+            i,
+            j,
+            card,
+            out,
+            made,
+        );
+        j += 1;
+    }
+    made
+}
+
+// The run of so many cards between two columns, if it fits; within the run and the limit.
+fn offer_run<'a>(
+    cells: &'a [u8; 4],
+    foundation: &'a [u8; 4],
+    counts: &'a [u8; 8],
+    tableau: &'a [u8; 416],
+    i: usize,
+    j: usize,
+    k: usize,
+    out: &mut [u8],
+    n: usize,
+) -> usize
+    requires { ⌜ Sound (record { cells = now cells; foundation = now foundation; counts = now counts; tableau = now tableau }) ⌝ }
+    requires { ⌜ i < 8 ⌝ }
+    requires { ⌜ j < 8 ⌝ }
+    requires { ⌜ (i ≡ j → ⊥) ⌝ }
+    requires { ⌜ k < runLength (columnAt (now counts) (now tableau) i) ⌝ }
+    requires { ⌜ k < mostMoved (now cells) (listed 8 (columnAt (now counts) (now tableau))) j ⌝ }
+    requires { ⌜ (n + length (ifAllowed (shown (record { cells = now cells; foundation = now foundation; counts = now counts; tableau = now tableau })) (offered (shown (record { cells = now cells; foundation = now foundation; counts = now counts; tableau = now tableau })) ColumnToColumn i j (suc k)))) * 5 ≤ length (now out) ⌝ }
+    ensures { λ r. ⌜ Adds (now (out .entry)) (now (out .exit)) n r (ifAllowed (shown (record { cells = now (cells .entry); foundation = now (foundation .entry); counts = now (counts .entry); tableau = now (tableau .entry) })) (offered (shown (record { cells = now (cells .entry); foundation = now (foundation .entry); counts = now (counts .entry); tableau = now (tableau .entry) })) ColumnToColumn i j (suc k))) ⌝ }
+{
+    let first = i * 52;
+    let above = k + 1;
+    let lie = card::wide(counts[i]);
+    let deepest = first + (lie - above);
+    let code = tableau[deepest];
+    if rules::fit_at(counts, tableau, j, code) {
+        let card = card::card_of(code);
+        let m = Move::TableauToTableau {
+            source: i,
+            destination: j,
+            count: above,
+            card,
+        };
+        return write(out, n, m);
+    }
+    n
+}
+
+// The smaller of two numbers.
+fn lesser(a: usize, b: usize) -> usize
+    ensures { λ r. ⌜ r ≡ min a b ⌝ }
+{
+    if a < b {
+        return a;
+    }
+    b
+}
+
+// The runs between two columns, none from a column to itself; the longest of the first has `run` cards.
+fn runs_between<'a>(
+    cells: &'a [u8; 4],
+    foundation: &'a [u8; 4],
+    counts: &'a [u8; 8],
+    tableau: &'a [u8; 416],
+    i: usize,
+    run: usize,
+    j: usize,
+    out: &mut [u8],
+    n: usize,
+) -> usize
+    requires { ⌜ Sound (record { cells = now cells; foundation = now foundation; counts = now counts; tableau = now tableau }) ⌝ }
+    requires { ⌜ i < 8 ⌝ }
+    requires { ⌜ j < 8 ⌝ }
+    requires { ⌜ run ≡ runLength (columnAt (now counts) (now tableau) i) ⌝ }
+    requires { ⌜ (n + length (foundBetween (shown (record { cells = now cells; foundation = now foundation; counts = now counts; tableau = now tableau })) ColumnToColumn i j)) * 5 ≤ length (now out) ⌝ }
+    ensures { λ r. ⌜ Adds (now (out .entry)) (now (out .exit)) n r (foundBetween (shown (record { cells = now (cells .entry); foundation = now (foundation .entry); counts = now (counts .entry); tableau = now (tableau .entry) })) ColumnToColumn i j) ⌝ }
+{
+    if i == j {
+        return n;
+    }
+    let most = rules::most_at(cells, counts, tableau, j);
+    let last = lesser(run, most);
+    let mut made = n;
+    let mut k = 0;
+    while k < last {
+        made = offer_run(cells, foundation, counts, tableau, i, j, k, out, made);
+        k += 1;
+    }
+    made
+}
+
+// The runs from a column.
+fn runs_from<'a>(
+    cells: &'a [u8; 4],
+    foundation: &'a [u8; 4],
+    counts: &'a [u8; 8],
+    tableau: &'a [u8; 416],
+    i: usize,
+    out: &mut [u8],
+    n: usize,
+) -> usize
+    requires { ⌜ Sound (record { cells = now cells; foundation = now foundation; counts = now counts; tableau = now tableau }) ⌝ }
+    requires { ⌜ i < 8 ⌝ }
+    requires { ⌜ (n + length (foundFrom (shown (record { cells = now cells; foundation = now foundation; counts = now counts; tableau = now tableau })) ColumnToColumn i)) * 5 ≤ length (now out) ⌝ }
+    ensures { λ r. ⌜ Adds (now (out .entry)) (now (out .exit)) n r (foundFrom (shown (record { cells = now (cells .entry); foundation = now (foundation .entry); counts = now (counts .entry); tableau = now (tableau .entry) })) ColumnToColumn i) ⌝ }
+{
+    let run = rules::run_at(counts, tableau, i);
+    let mut made = n;
+    let mut j = 0;
+    while j < 8 {
+        made = runs_between(cells, foundation, counts, tableau, i, run, j, out, made);
+        j += 1;
+    }
+    made
+}
+
+// The moves of a kind from a place.
+fn find_from<'a>(
+    way: Way,
+    cells: &'a [u8; 4],
+    foundation: &'a [u8; 4],
+    counts: &'a [u8; 8],
+    tableau: &'a [u8; 416],
+    i: usize,
+    out: &mut [u8],
+    n: usize,
+) -> usize
+    requires { ⌜ Sound (record { cells = now cells; foundation = now foundation; counts = now counts; tableau = now tableau }) ⌝ }
+    requires { ⌜ i < sourceCount way ⌝ }
+    requires { ⌜ (n + length (foundFrom (shown (record { cells = now cells; foundation = now foundation; counts = now counts; tableau = now tableau })) way i)) * 5 ≤ length (now out) ⌝ }
+    ensures { λ r. ⌜ Adds (now (out .entry)) (now (out .exit)) n r (foundFrom (shown (record { cells = now (cells .entry); foundation = now (foundation .entry); counts = now (counts .entry); tableau = now (tableau .entry) })) way i) ⌝ }
+{
+    match way {
+        Way::ColumnToColumn => runs_from(cells, foundation, counts, tableau, i, out, n),
+        _ => from_place(way, cells, foundation, counts, tableau, i, out, n),
+    }
+}
+
+// All moves of a kind on a well formed board, after n records.
+pub fn find_at<'a>(
+    way: Way,
+    cells: &'a [u8; 4],
+    foundation: &'a [u8; 4],
+    counts: &'a [u8; 8],
+    tableau: &'a [u8; 416],
+    out: &mut [u8],
+    n: usize,
+) -> usize
+    requires { ⌜ Sound (record { cells = now cells; foundation = now foundation; counts = now counts; tableau = now tableau }) ⌝ }
+    requires { ⌜ (n + length (found (shown (record { cells = now cells; foundation = now foundation; counts = now counts; tableau = now tableau })) way)) * 5 ≤ length (now out) ⌝ }
+    ensures { λ r. ⌜ Adds (now (out .entry)) (now (out .exit)) n r (found (shown (record { cells = now (cells .entry); foundation = now (foundation .entry); counts = now (counts .entry); tableau = now (tableau .entry) })) way) ⌝ }
+{
+    let last = sources(way);
+    let mut made = n;
+    let mut i = 0;
+    while i < last {
+        made = find_from(way, cells, foundation, counts, tableau, i, out, made);
+        i += 1;
+    }
+    made
+}
+
+// 12 to 15, 21, or all moves of a kind.
+pub fn find(b: Board, way: Way, out: &mut [u8]) -> CountAnswer
+    ensures { λ r. ⌜ Finds b way (now (out .entry)) (now (out .exit)) r ⌝ }
+{
+    if let Examined::Refused(why) = inspect(&b.cells, &b.foundation, &b.counts, &b.tableau) {
+        return CountAnswer::Refused(why);
+    }
+    if out.len() < 4180 {
+        return CountAnswer::Refused(Refusal::NoRoom);
+    }
+    let made = find_at(way, &b.cells, &b.foundation, &b.counts, &b.tableau, out, 0);
+    CountAnswer::Count(made)
+}
+
+pub fn find_tableau_to_foundation(b: Board, out: &mut [u8]) -> CountAnswer
+    ensures { λ r. ⌜ Finds b ColumnToHome (now (out .entry)) (now (out .exit)) r ⌝ }
+{
+    find(b, Way::ColumnToHome, out)
+}
+
+pub fn find_freecell_to_foundation(b: Board, out: &mut [u8]) -> CountAnswer
+    ensures { λ r. ⌜ Finds b CellToHome (now (out .entry)) (now (out .exit)) r ⌝ }
+{
+    find(b, Way::CellToHome, out)
+}
+
+pub fn find_tableau_to_freecell(b: Board, out: &mut [u8]) -> CountAnswer
+    ensures { λ r. ⌜ Finds b ColumnToCell (now (out .entry)) (now (out .exit)) r ⌝ }
+{
+    find(b, Way::ColumnToCell, out)
+}
+
+pub fn find_freecell_to_tableau(b: Board, out: &mut [u8]) -> CountAnswer
+    ensures { λ r. ⌜ Finds b CellToColumn (now (out .entry)) (now (out .exit)) r ⌝ }
+{
+    find(b, Way::CellToColumn, out)
+}
+
+pub fn find_tableau_to_tableau(b: Board, out: &mut [u8]) -> CountAnswer
+    ensures { λ r. ⌜ Finds b ColumnToColumn (now (out .entry)) (now (out .exit)) r ⌝ }
+{
+    find(b, Way::ColumnToColumn, out)
+}
+
+pub fn find_foundation_to_tableau(b: Board, out: &mut [u8]) -> CountAnswer
+    ensures { λ r. ⌜ Finds b HomeToColumn (now (out .entry)) (now (out .exit)) r ⌝ }
+{
+    find(b, Way::HomeToColumn, out)
+}
