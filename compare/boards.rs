@@ -17,53 +17,12 @@ pub mod freecell {
     pub mod weights;
 }
 
+pub mod shared;
+
 use common::card::{Card, Suit};
 use freecell::board::{FreeCellBoard, FreeCellMove};
 use freecell::solver::{deal, is_win, FreeCellSolver};
-
-// Draws that are the same on every machine: Knuth's 64-bit linear congruential generator.
-struct Draws(u64);
-
-impl Draws {
-    fn below(&mut self, n: usize) -> usize {
-        self.0 = self
-            .0
-            .wrapping_mul(6364136223846793005)
-            .wrapping_add(1442695040888963407);
-        (self.0 >> 33) as usize % n
-    }
-
-    fn shuffled(&mut self) -> Vec<Card> {
-        let mut deck = Card::standard_deck();
-        for i in (1..deck.len()).rev() {
-            deck.swap(i, self.below(i + 1));
-        }
-        deck
-    }
-}
-
-// Document 01's code, which is not the Rust's `encode`.
-fn code(card: Card) -> u8 {
-    card.value * 16 + card.suit as u8
-}
-
-fn code_or_none(card: Option<Card>) -> u8 {
-    card.map_or(255, code)
-}
-
-// Document 01's image of a board.
-fn image(board: &FreeCellBoard) -> Vec<u8> {
-    let mut body = vec![1];
-    body.extend(board.free_cells.iter().map(|&cell| code_or_none(cell)));
-    body.extend(board.foundation.iter().map(|pile| pile.len() as u8));
-    for column in &board.tableau {
-        body.push(column.len() as u8);
-        body.extend(column.iter().map(|&card| code(card)));
-    }
-    let mut bytes = (body.len() as u16).to_be_bytes().to_vec();
-    bytes.extend(body);
-    bytes
-}
+use shared::{code, code_or_none, drawn_move, image, won_board, Draws};
 
 fn answers(board: &FreeCellBoard) -> String {
     let mut numbers: Vec<usize> = Vec::new();
@@ -120,32 +79,13 @@ impl Sheet {
         self.won += is_win(board) as usize;
     }
 
-    // One legal move, of a kind drawn by its weight among the kinds that have one.
     fn step(
         &mut self,
         draws: &mut Draws,
         board: &FreeCellBoard,
         weights: [usize; 6],
     ) -> Option<FreeCellBoard> {
-        let kinds = [
-            FreeCellMove::find_tableau_to_tableau(board),
-            FreeCellMove::find_tableau_to_foundation(board),
-            FreeCellMove::find_tableau_to_freecell(board),
-            FreeCellMove::find_freecell_to_tableau(board),
-            FreeCellMove::find_freecell_to_foundation(board),
-            FreeCellMove::find_foundation_to_tableau(board),
-        ];
-        let mut chances = Vec::new();
-        for (kind, moves) in kinds.iter().enumerate() {
-            if !moves.is_empty() {
-                chances.extend(std::iter::repeat(kind).take(weights[kind]));
-            }
-        }
-        if chances.is_empty() {
-            return None;
-        }
-        let kind = chances[draws.below(chances.len())];
-        let step = &kinds[kind][draws.below(kinds[kind].len())];
+        let (kind, step) = drawn_move(draws, board, weights)?;
         self.kinds[kind] += 1;
         Some(step.apply(board).unwrap())
     }
@@ -182,11 +122,6 @@ impl Sheet {
         }
         self.board(&board);
     }
-}
-
-fn won_board() -> FreeCellBoard {
-    let pile = |suit: Suit| (1..=13).map(|value| Card::new(suit, value)).collect();
-    FreeCellBoard::new([None; 4], Suit::ALL.map(pile), Default::default())
 }
 
 fn main() {

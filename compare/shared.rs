@@ -1,0 +1,85 @@
+// What both drivers need: draws, codes and images, and a legal move drawn by its kind.
+use crate::common::card::{Card, Suit};
+use crate::freecell::board::{FreeCellBoard, FreeCellMove};
+
+// Draws that are the same on every machine: Knuth's 64-bit linear congruential generator.
+pub struct Draws(pub u64);
+
+impl Draws {
+    pub fn below(&mut self, n: usize) -> usize {
+        self.0 = self
+            .0
+            .wrapping_mul(6364136223846793005)
+            .wrapping_add(1442695040888963407);
+        (self.0 >> 33) as usize % n
+    }
+
+    pub fn shuffled(&mut self) -> Vec<Card> {
+        let mut deck = Card::standard_deck();
+        for i in (1..deck.len()).rev() {
+            deck.swap(i, self.below(i + 1));
+        }
+        deck
+    }
+}
+
+// Document 01's code, which is not the Rust's `encode`.
+pub fn code(card: Card) -> u8 {
+    card.value * 16 + card.suit as u8
+}
+
+pub fn code_or_none(card: Option<Card>) -> u8 {
+    card.map_or(255, code)
+}
+
+// Document 01's image of a board.
+pub fn image(board: &FreeCellBoard) -> Vec<u8> {
+    let mut body = vec![1];
+    body.extend(board.free_cells.iter().map(|&cell| code_or_none(cell)));
+    body.extend(board.foundation.iter().map(|pile| pile.len() as u8));
+    for column in &board.tableau {
+        body.push(column.len() as u8);
+        body.extend(column.iter().map(|&card| code(card)));
+    }
+    let mut bytes = (body.len() as u16).to_be_bytes().to_vec();
+    bytes.extend(body);
+    bytes
+}
+
+pub fn won_board() -> FreeCellBoard {
+    let pile = |suit: Suit| (1..=13).map(|value| Card::new(suit, value)).collect();
+    FreeCellBoard::new([None; 4], Suit::ALL.map(pile), Default::default())
+}
+
+// The legal moves of each kind, 1 to 6.
+pub fn moves_by_kind(board: &FreeCellBoard) -> [Vec<FreeCellMove>; 6] {
+    [
+        FreeCellMove::find_tableau_to_tableau(board),
+        FreeCellMove::find_tableau_to_foundation(board),
+        FreeCellMove::find_tableau_to_freecell(board),
+        FreeCellMove::find_freecell_to_tableau(board),
+        FreeCellMove::find_freecell_to_foundation(board),
+        FreeCellMove::find_foundation_to_tableau(board),
+    ]
+}
+
+// One legal move and its kind, 0 to 5, drawn by the kind's weight among the kinds that have one.
+pub fn drawn_move(
+    draws: &mut Draws,
+    board: &FreeCellBoard,
+    weights: [usize; 6],
+) -> Option<(usize, FreeCellMove)> {
+    let kinds = moves_by_kind(board);
+    let mut chances = Vec::new();
+    for (kind, moves) in kinds.iter().enumerate() {
+        if !moves.is_empty() {
+            chances.extend(std::iter::repeat(kind).take(weights[kind]));
+        }
+    }
+    if chances.is_empty() {
+        return None;
+    }
+    let kind = chances[draws.below(chances.len())];
+    let step = kinds[kind][draws.below(kinds[kind].len())].clone();
+    Some((kind, step))
+}
