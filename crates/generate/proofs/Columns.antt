@@ -30,6 +30,7 @@ use Rattle.moves.proofs.Allowing.{allowed-is}
 use Rattle.moves.proofs.Deciding.{deny-away}
 use Rattle.play.proofs.Running.{deepest, run-decides}
 use Rattle.generate.specs.Found.{offered, ifAllowed, gather, foundBetween}
+use Rattle.generate.specs.Inner.{Reaches}
 use Rattle.generate.specs.declared.Way.the-variants.{ColumnToColumn}
 use Rattle.generate.proofs.Gathering.{gather-end, gather-nothing}
 use Rattle.generate.proofs.Places.{cards-there}
@@ -95,35 +96,35 @@ module _ {b : Board} (sound : Sound b) (i j : ℕ) (hi : i < 8) where
       → last ≡ min u v → (n : ℕ) {lent : ℕ} → (n + length (foundBetween (shown b) ColumnToColumn i j)) * 5 ≤ lent → (n + length (gather last (tried (shown b) i j))) * 5 ≤ lent
   runs-room p q e n {lent} h = subst (λ (l : List Move). (n + length l) * 5 ≤ lent) (runs-of p q e) h
 
-  pub run-short : {k : ℕ} → k < runLength (columnAt (b .counts) (b .tableau) i) → k < 52
-  run-short h =
-      let l = column-length (sound .inColumns) i hi in
+module _ {b : Board} {i j k : ℕ} (o : Reaches b i j k) where
+  pub run-short : k < getD (b .counts) i 0
+  run-short =
+      let l = column-length (o .sound .inColumns) i (o .leaves) in
       let r = run-at-most (columnAt (b .counts) (b .tableau) i) in
-      let m = sound .inColumns .within i hi in
+      let h = o .run in
       omega arith
 
-  module _ (k w : ℕ) (hj : j < 8) (other : i ≡ j → ⊥) (e : w ≡ getD (b .counts) i 0)
-      (long : k < runLength (columnAt (b .counts) (b .tableau) i)) (few : k < mostMoved (b .cells) (listed 8 (columnAt (b .counts) (b .tableau))) j) where
+  module _ {w : ℕ} (e : w ≡ getD (b .counts) i 0) where
     abbrev code : ℕ
     code = getD (b .tableau) (i * 52 + (w - (k + 1))) 0
 
     pub run-there : k + 1 ≤ w
-    run-there = let l = column-length (sound .inColumns) i hi in let r = run-at-most (columnAt (b .counts) (b .tableau) i) in omega arith
+    run-there = let l = run-short in omega arith
 
     pub code-there : isCard code ≡ true
-    code-there = let r = run-there in sound .inColumns .codes i (w - (k + 1)) hi (omega arith)
+    code-there = let r = run-there in o .sound .inColumns .codes i (w - (k + 1)) (o .leaves) (omega arith)
 
     said : sayable (TableauToTableau i j (k + 1) (cardOf code)) ≡ true
     said =
         let r = run-there in
-        let l = sound .inColumns .within i hi in
-        said-way ColumnToColumn i j (k + 1) (cardOf code) hi hj (omega arith) (omega arith) (value-of-card code code-there)
+        let l = o .sound .inColumns .within i (o .leaves) in
+        said-way ColumnToColumn i j (k + 1) (cardOf code) (o .leaves) (o .goes) (omega arith) (omega arith) (value-of-card code code-there)
 
     offered-is : offered (shown b) ColumnToColumn i j (suc k) ≡ TableauToTableau i j (k + 1) (cardOf code)
     unfolding offered hand
     offered-is =
         ap (λ (n : ℕ). TableauToTableau i j n (cardOf (getD (lastOf n (there (shown b) (column i))) 0 0))) (sym (add-one k))
-        ∙ ap (λ (x : ℕ). TableauToTableau i j (k + 1) (cardOf x)) (deepest b i j (k + 1) (cardOf code) sound said w e run-there)
+        ∙ ap (λ (x : ℕ). TableauToTableau i j (k + 1) (cardOf x)) (deepest b i j (k + 1) (cardOf code) (o .sound) said w e run-there)
 
     pub run-said : {c : Card} → c ≡ cardOf code → sayable (TableauToTableau i j (k + 1) c) ≡ true
     run-said q = subst (λ (c : Card). sayable (TableauToTableau i j (k + 1) c) ≡ true) (sym q) said
@@ -131,8 +132,10 @@ module _ {b : Board} (sound : Sound b) (i j : ℕ) (hi : i < 8) where
     pub run-found : {r s : Bool} → r ≡ fitsOn (columnAt (b .counts) (b .tableau) j) code → r ≡ s
         → tried (shown b) i j k ≡ cond s (TableauToTableau i j (k + 1) (cardOf code) ∷ []) []
     run-found {r} {s} f q =
+        let long = o .run in
+        let few = o .limit in
         ap (ifAllowed (shown b)) offered-is
         ∙ if-allowed (shown b) (TableauToTableau i j (k + 1) (cardOf code)) s
         (sym
-        (run-decides b i j (k + 1) (cardOf code) sound said w e run-there other (sym (code-card code code-there)) refl
+        (run-decides b i j (k + 1) (cardOf code) (o .sound) said w e run-there (o .other) (sym (code-card code code-there)) refl
         refl (omega arith) refl (omega arith) (sym q ∙ f)))

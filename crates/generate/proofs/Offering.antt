@@ -14,7 +14,6 @@ use Rattle.card.proofs.Words.{both, all-at}
 use Rattle.card.proofs.Codes.{suit-below, number-suit-at, code-card, value-of-card}
 use Rattle.board.specs.Table.{Table}
 use Rattle.board.specs.Record.{shown}
-use Rattle.board.specs.Inner.{Sound}
 use Rattle.board.specs.declared.Board.{Board}
 use Rattle.questions.specs.Questions.{topOf}
 use Rattle.questions.specs.declared.Top.the-variants.{Is, Empty}
@@ -26,6 +25,7 @@ use Rattle.moves.proofs.Allowing.{last-first}
 use Rattle.moves.proofs.Deciding.{deny-some, one-decided}
 use Rattle.play.proofs.Ending.{ends-some}
 use Rattle.generate.specs.Found.{sourceCount, targetCount, source, moveFrom, offered, ifAllowed, gather, foundBetween, foundFrom}
+use Rattle.generate.specs.Inner.{Offers}
 use Rattle.generate.specs.declared.Way.{Way}
 use Rattle.generate.specs.declared.Way.the-variants.{ColumnToColumn, ColumnToHome, ColumnToCell, CellToColumn, CellToHome, HomeToColumn}
 use Rattle.generate.proofs.Gathering.{gather-nothing}
@@ -139,16 +139,19 @@ pub none-from : (t : Table) (w : Way) (i : ℕ) → (w ≡ ColumnToColumn → �
 unfolding foundFrom
 none-from t w i one h e = gather-nothing (foundBetween t w i) (targetCount w) (λ j l. none-found t w i j one h e)
 
--- ---- on a record, the last card at the place known
+-- ---- on a record
 
-module _ {b : Board} (sound : Sound b) (w : Way) (i j : ℕ) (one : w ≡ ColumnToColumn → ⊥) (h : i < sourceCount w) (c : Card)
-    (top : topOf (there (shown b) (source w i)) ≡ Is c) where
+module _ {b : Board} {w : Way} {i j : ℕ} {c : Card} (o : Offers b w i j c) where
+  cards : all isCard (there (shown b) (source w i)) ≡ true
+  cards = cards-there (o .sound) w i (o .leaves)
+
   pub offer-value : isValue (c .value) ≡ true
-  offer-value = top-value (there (shown b) (source w i)) c top (cards-there sound w i h)
+  offer-value = top-value (there (shown b) (source w i)) c (o .top) cards
 
-  pub offer-said : j < targetCount w → {m : Move} → m ≡ moveFrom w i j 1 c → sayable m ≡ true
-  offer-said k e = subst (λ (m : Move). sayable m ≡ true) (sym e) (said-way w i j 1 c h k (omega arith) (omega arith) offer-value)
+  pub offer-said : {m : Move} → m ≡ moveFrom w i j 1 c → sayable m ≡ true
+  offer-said e =
+      subst (λ (m : Move). sayable m ≡ true) (sym e) (said-way w i j 1 c (o .leaves) (o .goes) (omega arith) (omega arith) offer-value)
 
   pub offer-found : {r s : Bool} → r ≡ takes (shown b) (to (moveFrom w i j 1 c)) (codeOf c) → r ≡ s
       → foundBetween (shown b) w i j ≡ cond s (moveFrom w i j 1 c ∷ []) []
-  offer-found {r} {s} e q = one-found (shown b) w i j one h c s top (cards-there sound w i h) (sym q ∙ e)
+  offer-found {r} {s} e q = one-found (shown b) w i j (o .single) (o .leaves) c s (o .top) cards (sym q ∙ e)

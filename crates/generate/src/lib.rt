@@ -4,7 +4,6 @@ ghost use mathlib.Core.Bool.{true};
 ghost use mathlib.Core.List.{_∷_, []};
 ghost use Prim.Native.Nat.{suc, min, _+_, _*_, _<_, _≤_};
 ghost use lib.ListN.{length, getD};
-ghost use Rattle.card.specs.Words.{listed};
 ghost use Rattle.card.specs.Card.{isValue, codeOf};
 ghost use Rattle.board.specs.Record.{shown, columnAt};
 ghost use Rattle.board.specs.Table.{pile};
@@ -12,11 +11,11 @@ ghost use Rattle.board.specs.Inner.{GoodPiles, Sound};
 ghost use Rattle.questions.specs.Questions.{topOf};
 ghost use Rattle.questions.specs.declared.Top.the-variants.{Is};
 ghost use Rattle.rules.specs.Run.{runLength};
-ghost use Rattle.rules.specs.Limit.{mostMoved};
 ghost use Rattle.moves.specs.Move.{to, sayable};
 ghost use Rattle.moves.specs.Play.{there, takes};
 ghost use Rattle.generate.specs.Found.{sourceCount, targetCount, source, moveFrom, offered, ifAllowed, foundBetween, foundFrom, found};
 ghost use Rattle.generate.specs.Asked.{Adds, Finds};
+ghost use Rattle.generate.specs.Inner.{Offers, Reaches};
 ghost use Rattle.generate.specs.declared.Way.the-variants.{ColumnToColumn, ColumnToHome, ColumnToCell, CellToColumn, CellToHome, HomeToColumn};
 use board::Board;
 use board::Examined;
@@ -198,11 +197,7 @@ fn offer<'a>(
     out: &mut [u8],
     n: usize,
 ) -> usize
-    requires { ⌜ Sound (record { cells = now cells; foundation = now foundation; counts = now counts; tableau = now tableau }) ⌝ }
-    requires { ⌜ (way ≡ ColumnToColumn → ⊥) ⌝ }
-    requires { ⌜ i < sourceCount way ⌝ }
-    requires { ⌜ j < targetCount way ⌝ }
-    requires { ⌜ topOf (there (shown (record { cells = now cells; foundation = now foundation; counts = now counts; tableau = now tableau })) (source way i)) ≡ Is card ⌝ }
+    requires { ⌜ Offers (record { cells = now cells; foundation = now foundation; counts = now counts; tableau = now tableau }) way i j card ⌝ }
     requires { ⌜ (n + length (foundBetween (shown (record { cells = now cells; foundation = now foundation; counts = now counts; tableau = now tableau })) way i j)) * 5 ≤ length (now out) ⌝ }
     ensures { λ r. ⌜ Adds (now (out .entry)) (now (out .exit)) n r (foundBetween (shown (record { cells = now (cells .entry); foundation = now (foundation .entry); counts = now (counts .entry); tableau = now (tableau .entry) })) way i j) ⌝ }
 {
@@ -265,12 +260,7 @@ fn offer_run<'a>(
     out: &mut [u8],
     n: usize,
 ) -> usize
-    requires { ⌜ Sound (record { cells = now cells; foundation = now foundation; counts = now counts; tableau = now tableau }) ⌝ }
-    requires { ⌜ i < 8 ⌝ }
-    requires { ⌜ j < 8 ⌝ }
-    requires { ⌜ (i ≡ j → ⊥) ⌝ }
-    requires { ⌜ k < runLength (columnAt (now counts) (now tableau) i) ⌝ }
-    requires { ⌜ k < mostMoved (now cells) (listed 8 (columnAt (now counts) (now tableau))) j ⌝ }
+    requires { ⌜ Reaches (record { cells = now cells; foundation = now foundation; counts = now counts; tableau = now tableau }) i j k ⌝ }
     requires { ⌜ (n + length (ifAllowed (shown (record { cells = now cells; foundation = now foundation; counts = now counts; tableau = now tableau })) (offered (shown (record { cells = now cells; foundation = now foundation; counts = now counts; tableau = now tableau })) ColumnToColumn i j (suc k)))) * 5 ≤ length (now out) ⌝ }
     ensures { λ r. ⌜ Adds (now (out .entry)) (now (out .exit)) n r (ifAllowed (shown (record { cells = now (cells .entry); foundation = now (foundation .entry); counts = now (counts .entry); tableau = now (tableau .entry) })) (offered (shown (record { cells = now (cells .entry); foundation = now (foundation .entry); counts = now (counts .entry); tableau = now (tableau .entry) })) ColumnToColumn i j (suc k))) ⌝ }
 {

@@ -1,4 +1,4 @@
--- What `card_at` leaves to be shown.
+-- What `card_at` leaves to be shown: kind by kind, the last card where it takes from.
 use mathlib.Core.Path.{ap}
 use Rattle.generate.specs.Found.{source}
 use Rattle.generate.specs.declared.Way.{Way}

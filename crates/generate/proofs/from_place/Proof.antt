@@ -40,7 +40,7 @@ offer-requires : tie.Need-offer-requires Inv-loop μ-loop
 unfolding foundFrom
 offer-requires c κs =
     let s = c .before .before .before .before .before .before .before .before .before in
-    (s .pre .0, (s .pre .1 .0, (s .pre .1 .1 .0, ((omega (arith, c .before .loop-test .taken, c .before .before .before .targets .ensures)), (sym (c .before .before .before .before .before .before .before .card-at .ensures) ∙ c .before .before .before .before .before .card .given .1, walk-room (s .pre .1 .1 .1) (c .before .before .loop .inv) (omega (arith, c .before .loop-test .taken, c .before .before .before .targets .ensures)))))))
+    (record { sound = s .pre .0; single = s .pre .1 .0; leaves = s .pre .1 .1 .0; goes = omega (arith, c .before .loop-test .taken, c .before .before .before .targets .ensures); top = sym (c .before .before .before .before .before .before .before .card-at .ensures) ∙ c .before .before .before .before .before .card .given .1 }, walk-room (s .pre .1 .1 .1) (c .before .before .loop .inv) (omega (arith, c .before .loop-test .taken, c .before .before .before .targets .ensures)))
 
 add-j : tie.Need-add-j Inv-loop μ-loop
 add-j c = search needs

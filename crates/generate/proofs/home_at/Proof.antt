@@ -1,4 +1,4 @@
--- What `home_at` leaves to be shown.
+-- What `home_at` leaves to be shown: the top of a foundation has its count as value.
 use lib.ListN.{getD}
 use Rattle.generate.proofs.Places.{no-pile-top, a-pile-top}
 use borrow.Author.Needs.{needs}

@@ -1,4 +1,4 @@
--- What `move_from` leaves to be shown.
+-- What `move_from` leaves to be shown: kind by kind.
 use mathlib.Core.Path.{sym, ap, _∙_}
 use native.Mathlib.Omega.{arith}
 use Rattle.card.specs.declared.Suit.{Suit}

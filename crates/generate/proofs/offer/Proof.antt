@@ -13,28 +13,26 @@ use Rattle.generate.proofs.offer.Tie as tie
 takes-at-requires : tie.Need-takes-at-requires
 takes-at-requires c κs =
     let s = c .before in
-    (s .pre .0, (s .pre .1 .1 .1 .0, offer-value (s .pre .0) (s .args .way) (s .args .i) (s .args .j) (s .pre .1 .0) (s .pre .1 .1 .0) (s .args .card) (s .pre .1 .1 .1 .1 .0)))
+    (s .pre .0 .sound, (s .pre .0 .goes, offer-value (s .pre .0)))
 
 move-from-requires : tie.Need-move-from-requires
-move-from-requires c κs = c .before .before .before .before .pre .1 .1 .0
+move-from-requires c κs = c .before .before .before .before .pre .0 .leaves
 
 write-requires : tie.Need-write-requires
 write-requires c κs =
     let s = c .before .before .before .before .before in
-    (offer-said (s .pre .0) (s .args .way) (s .args .i) (s .args .j) (s .pre .1 .0) (s .pre .1 .1 .0) (s .args .card) (s .pre .1 .1 .1 .1 .0) (s .pre .1 .1 .1 .0) (c .move-from .ensures), omega (arith, s .pre .1 .1 .1 .1 .1, ap length (offer-found (s .pre .0) (s .args .way) (s .args .i) (s .args .j) (s .pre .1 .0) (s .pre .1 .1 .0) (s .args .card) (s .pre .1 .1 .1 .1 .0) (c .before .before .before .takes-at .ensures) (c .before .before .if1 .taken))))
+    (offer-said (s .pre .0) (c .move-from .ensures), omega (arith, s .pre .1, ap length (offer-found (s .pre .0) (c .before .before .before .takes-at .ensures) (c .before .before .if1 .taken))))
 
 same-length : tie.Need-same-length
 same-length c = search needs
 
 returns : tie.Need-returns
 returns c =
-    let s = c .before .before .before .before .before .before .before .before in
-    adds-same (ap (λ (m : Move). m ∷ []) (c .before .before .before .move-from .ensures) ∙ sym (offer-found (s .pre .0) (s .args .way) (s .args .i) (s .args .j) (s .pre .1 .0) (s .pre .1 .1 .0) (s .args .card) (s .pre .1 .1 .1 .1 .0) (c .before .before .before .before .before .before .takes-at .ensures) (c .before .before .before .before .before .if1 .taken))) (c .before .before .write .ensures)
+    adds-same (ap (λ (m : Move). m ∷ []) (c .before .before .before .move-from .ensures) ∙ sym (offer-found (c .before .before .before .before .before .before .before .before .pre .0) (c .before .before .before .before .before .before .takes-at .ensures) (c .before .before .before .before .before .if1 .taken))) (c .before .before .write .ensures)
 
 returns-2 : tie.Need-returns-2
 returns-2 c =
-    let s = c .before .before .before in
-    adds-none _ _ (offer-found (s .pre .0) (s .args .way) (s .args .i) (s .args .j) (s .pre .1 .0) (s .pre .1 .1 .0) (s .args .card) (s .pre .1 .1 .1 .1 .0) (c .before .takes-at .ensures) (c .if1 .left))
+    adds-none _ _ (offer-found (c .before .before .before .pre .0) (c .before .takes-at .ensures) (c .if1 .left))
 
 pub offer-spec : {M : Type 1} → statement M
 offer-spec =

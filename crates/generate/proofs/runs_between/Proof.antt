@@ -33,7 +33,7 @@ loop-holds c = walk-start _ _ _ _
 offer-run-requires : tie.Need-offer-run-requires Inv-loop μ-loop
 offer-run-requires c κs =
     let s = c .before .before .before .before .before .before .before in
-    (s .pre .0, (s .pre .1 .0, (s .pre .1 .1 .0, (c .before .before .before .before .before .if1 .left, (omega (arith, c .before .loop-test .taken, c .before .before .before .lesser .ensures, s .pre .1 .1 .1 .0), (omega (arith, c .before .loop-test .taken, c .before .before .before .lesser .ensures, c .before .before .before .before .most-at .ensures), walk-room (runs-room (s .pre .0) (s .args .i) (s .args .j) (s .pre .1 .0) (s .pre .1 .1 .1 .0) (c .before .before .before .before .most-at .ensures) (c .before .before .before .lesser .ensures) (s .args .n) (s .pre .1 .1 .1 .1)) (c .before .before .loop .inv) (c .before .loop-test .taken)))))))
+    (record { sound = s .pre .0; leaves = s .pre .1 .0; goes = s .pre .1 .1 .0; other = c .before .before .before .before .before .if1 .left; run = omega (arith, c .before .loop-test .taken, c .before .before .before .lesser .ensures, s .pre .1 .1 .1 .0); limit = omega (arith, c .before .loop-test .taken, c .before .before .before .lesser .ensures, c .before .before .before .before .most-at .ensures) }, walk-room (runs-room (s .pre .0) (s .args .i) (s .args .j) (s .pre .1 .0) (s .pre .1 .1 .1 .0) (c .before .before .before .before .most-at .ensures) (c .before .before .before .lesser .ensures) (s .args .n) (s .pre .1 .1 .1 .1)) (c .before .before .loop .inv) (c .before .loop-test .taken))
 
 add-k : tie.Need-add-k Inv-loop μ-loop
 add-k c = search needs

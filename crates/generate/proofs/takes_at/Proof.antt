@@ -1,4 +1,4 @@
--- What `takes_at` leaves to be shown.
+-- What `takes_at` leaves to be shown: kind by kind, what the place takes that it goes to.
 use mathlib.Core.Path.{_≡_, sym, ap, subst}
 use mathlib.Core.Bool.{true}
 use Prim.Native.Nat.{ℕ}

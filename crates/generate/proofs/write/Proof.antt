@@ -1,4 +1,4 @@
--- What `write` leaves to be shown.
+-- What `write` leaves to be shown: five bytes are one record.
 use native.Mathlib.Omega.{arith}
 use lib.ListN.{length-set}
 use Rattle.generate.proofs.Writing.{adds-one}
