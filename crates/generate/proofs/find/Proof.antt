@@ -1,4 +1,5 @@
 -- What `find` leaves to be shown: the record's refusals, then the room's.
+use native.Mathlib.Omega.{arith}
 use mathlib.Core.Path.{refl}
 use Rattle.board.proofs.Soundness.{sound}
 use Rattle.questions.proofs.Asking.{verdict-fine}
@@ -22,18 +23,18 @@ enum-told c = search needs
 
 returns-2 : tie.Need-returns-2
 returns-2 c =
-    finds-no-room (c .before .before .before .inspect .ensures) (c .before .enum-told .given .1) refl (c .if1 .taken)
+    finds-no-room (c .before .before .before .inspect .ensures) (c .before .enum-told .given .1) refl (omega (arith, c .if1 .taken))
 
 find-at-requires : tie.Need-find-at-requires
 find-at-requires c κs =
-    (sound (c .before .before .before .before .before .before .before .before .before .before .before .before .before .before .before .before .args .t1) (record { four = search needs; piles = search needs; eight = search needs; full = search needs }) (verdict-fine (c .before .before .before .before .before .before .before .before .before .inspect .ensures) (c .before .before .before .before .before .before .before .enum-told .given .1)), room-enough _ _ (c .before .before .before .before .before .before .if1 .left))
+    (sound (c .before .before .before .before .before .before .before .before .before .before .before .before .before .before .before .before .args .t1) (record { four = search needs; piles = search needs; eight = search needs; full = search needs }) (verdict-fine (c .before .before .before .before .before .before .before .before .before .inspect .ensures) (c .before .before .before .before .before .before .before .enum-told .given .1)), room-enough _ _ (omega (arith, c .before .before .before .before .before .before .if1 .left)))
 
 same-length : tie.Need-same-length
 same-length c = search needs
 
 returns-3 : tie.Need-returns-3
 returns-3 c =
-    finds-all (c .before .before .before .before .before .before .before .before .before .before .before .before .inspect .ensures) (c .before .before .before .before .before .before .before .before .before .before .enum-told .given .1) (c .before .before .before .before .before .before .before .before .before .if1 .left) (c .before .before .find-at .ensures)
+    finds-all (c .before .before .before .before .before .before .before .before .before .before .before .before .inspect .ensures) (c .before .before .before .before .before .before .before .before .before .before .enum-told .given .1) (omega (arith, c .before .before .before .before .before .before .before .before .before .if1 .left)) (c .before .before .find-at .ensures)
 
 pub find-spec : {M : Type 1} → statement M
 find-spec =

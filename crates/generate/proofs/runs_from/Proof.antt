@@ -1,4 +1,5 @@
 -- What `runs_from` leaves to be shown: column after column.
+use native.Mathlib.Omega.{arith}
 use Prim.Native.Nat.{_-_}
 use Rattle.board.specs.Record.{shown}
 use Rattle.generate.specs.Found.{foundBetween, foundFrom}
@@ -25,7 +26,7 @@ runs-between-requires : tie.Need-runs-between-requires Inv-loop μ-loop
 unfolding foundFrom
 runs-between-requires c κs =
     let s = c .before .before .before .before .before in
-    (s .pre .0, (s .pre .1 .0, (c .before .loop-test .taken, (c .before .before .before .run-at .ensures, walk-room (s .pre .1 .1) (c .before .before .loop .inv) (c .before .loop-test .taken)))))
+    (s .pre .0, (s .pre .1 .0, (omega (arith, c .before .loop-test .taken), (c .before .before .before .run-at .ensures, walk-room (s .pre .1 .1) (c .before .before .loop .inv) (omega (arith, c .before .loop-test .taken))))))
 
 add-j : tie.Need-add-j Inv-loop μ-loop
 add-j c = search needs
@@ -36,7 +37,7 @@ loop-less c = search needs
 loop-again : tie.Need-loop-again Inv-loop μ-loop
 unfolding foundFrom
 loop-again c =
-    walk-on (c .before .before .before .before .before .before .before .before .pre .1 .1) (c .before .before .before .before .before .loop .inv) (c .before .before .before .before .loop-test .taken) (c .before .before .runs-between .ensures)
+    walk-on (c .before .before .before .before .before .before .before .before .pre .1 .1) (c .before .before .before .before .before .loop .inv) (omega (arith, c .before .before .before .before .loop-test .taken)) (c .before .before .runs-between .ensures)
 
 same-length : tie.Need-same-length Inv-loop μ-loop
 unfolding foundFrom
@@ -45,7 +46,7 @@ same-length c = walk-long (c .before .before .before .before .pre .1 .1) (c .bef
 returns : tie.Need-returns Inv-loop μ-loop
 unfolding foundFrom
 returns c =
-    walk-end (c .before .before .before .before .pre .1 .1) (c .before .loop .inv) (c .loop-test .left)
+    walk-end (c .before .before .before .before .pre .1 .1) (c .before .loop .inv) (omega (arith, c .loop-test .left))
 
 pub runs-from-spec : {M : Type 1} → statement M
 runs-from-spec =
