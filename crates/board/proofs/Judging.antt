@@ -1,17 +1,17 @@
 -- The verdicts one by one, each from the first thing that fails.
 use mathlib.Core.Path.{_≡_, refl, sym, ap, _∙_}
-use mathlib.Core.Bool.{Bool, true, false, _&&_}
+use mathlib.Core.Bool.{true, false}
 use mathlib.Core.List.{List, [], _∷_}
-use Prim.Native.Nat.{ℕ, _+_, _*_, _<_, _≤_}
+use Prim.Native.Nat.{ℕ, _*_, _<_}
 use native.Mathlib.Omega.{arith}
 use lib.Count.{ones}
 use lib.ListN.{length, getD}
 use Rattle.card.specs.Words.{every, all, listed, concat}
-use Rattle.card.specs.Answer.{refused, unless}
+use Rattle.card.specs.Answer.{refused}
 use Rattle.card.specs.Card.{isCard}
-use Rattle.card.proofs.Words.{first-fails, second-fails, both, listed-same, getD-listed}
+use Rattle.card.proofs.Words.{first-fails, second-fails, both, getD-listed}
 use Rattle.board.specs.Table.{Table, cardsOn}
-use Rattle.board.specs.Judged.{Verdict, fine, isCell, onlyCards, noneTwice, noneMissing, judged}
+use Rattle.board.specs.Judged.{fine, isCell, onlyCards, judged}
 use Rattle.board.specs.Record.{room, atMost, isZero, spareAt, columnAt, shown, shapely, examined}
 use Rattle.board.specs.Inner.{Marks, Parts, partAt}
 use Rattle.board.specs.declared.Board.{Board}

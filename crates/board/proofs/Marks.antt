@@ -1,22 +1,22 @@
 -- Looking at cards one after the other: one card, none, more, and what the end says of the whole list.
-use mathlib.Core.Path.{_≡_, refl, sym, ap, _∙_, subst}
+use mathlib.Core.Path.{_≡_, sym, ap, _∙_, subst}
 use mathlib.Core.Bool.{Bool, true, false, cond}
 use mathlib.Core.List.{List, [], _∷_, _++_, append-assoc, append-nil}
-use Prim.Native.Nat.{ℕ, zero, suc, _+_, _%_, _^_, _<_, _≤_}
+use Prim.Native.Nat.{ℕ, suc, _+_, _%_, _^_, _<_, _≤_}
 use native.Mathlib.Nat.{zero-div}
 use native.Mathlib.Omega.{arith}
 use native.Mathlib.Decide.{ℕ-discrete}
 use lib.Count.{ones}
-use lib.Dec.{leb, eqb}
+use lib.Dec.{leb}
 use borrow.Author.Tests.{leb-true, le-leb, lt-leb}
-use Rattle.card.specs.Words.{every, occurs, sum, listed, concat}
+use Rattle.card.specs.Words.{occurs, listed, concat}
 use Rattle.card.specs.Card.{isCard}
 use Rattle.card.specs.Pack.{cardAt, placeOf}
-use Rattle.card.proofs.Words.{concat-none, concat-more, concat-split, occurs-none, occurs-here, occurs-other, occurs-append, every-at, every-by, every-fails, not-so, same-test}
-use Rattle.card.proofs.Sums.{sum-same, sum-full, sum-all}
+use Rattle.card.proofs.Words.{concat-none, concat-more, concat-split, occurs-none, occurs-here, occurs-other, occurs-append, every-at, every-by, every-fails, not-so}
+use Rattle.card.proofs.Sums.{sum-full, sum-all}
 use Rattle.card.proofs.Codes.{at-place, place-at, place-below}
 use Rattle.board.specs.Judged.{noneTwice, noneMissing}
-use Rattle.board.specs.Inner.{bitAt, Holds, Knows, Below, Marks}
+use Rattle.board.specs.Inner.{bitAt, Holds, Knows, Marks}
 use Rattle.board.specs.declared.Seen.{Seen}
 use Rattle.board.specs.declared.Seen.the-variants.{Cards, Twice}
 use Rattle.board.proofs.Bits.{bit-small, bit-here, bit-other, bit-fits, ones-are-bits}

@@ -1,22 +1,22 @@
 -- A record that is examined and fine is sound at every place, and the other way round.
 use mathlib.Core.Path.{_≡_, refl, sym, ap, _∙_, subst}
-use mathlib.Core.Bool.{Bool, true, false, _&&_}
-use mathlib.Core.List.{List, []}
-use Prim.Native.Nat.{ℕ, zero, suc, _+_, _-_, _*_, _<_, _≤_}
+use mathlib.Core.Bool.{Bool, true, false}
+use mathlib.Core.List.{List}
+use Prim.Native.Nat.{ℕ, _+_, _-_, _*_, _<_, _≤_}
 use native.Mathlib.Omega.{arith}
 use borrow.Author.Tests.{le-leb, eq-eqb, eqb-true}
 use lib.Dec.{eqb}
-use lib.ListN.{length, getD, take, drop, length-take, length-drop}
+use lib.ListN.{length, getD, drop, length-take, length-drop}
 use lib.Seq.{getD-take, getD-drop}
-use Rattle.card.specs.Words.{every, all, occurs, listed, concat}
-use Rattle.card.specs.Answer.{Answer, given, refused, unless}
+use Rattle.card.specs.Words.{all, occurs, listed, concat}
+use Rattle.card.specs.Answer.{unless}
 use Rattle.card.specs.Card.{isCard}
 use Rattle.card.specs.Pack.{cardAt}
 use Rattle.card.proofs.Words.{both, first, second, every-at, every-by, all-at, all-by, all-concat}
 use Rattle.board.specs.Table.{Table, cardsOn}
 use Rattle.board.specs.Judged.{Verdict, fine, isCell, onlyCards, noneTwice, noneMissing, judged, wellFormed}
 use Rattle.board.specs.Record.{room, atMost, isZero, columnAt, spareAt, shown, shapely, examined}
-use Rattle.board.specs.Inner.{GoodCells, GoodPiles, GoodColumns, Sound, Sized}
+use Rattle.board.specs.Inner.{GoodPiles, GoodColumns, Sound, Sized}
 use Rattle.board.specs.declared.Board.{Board}
 use Rattle.board.proofs.Marks.{none-twice, none-twice-at, none-missing, none-missing-at}
 use Rattle.board.proofs.Tables.{at-most, good-cells, good-piles}

@@ -3,7 +3,7 @@ use mathlib.Core.Path.{_≡_, refl, ap}
 use mathlib.Core.Bool.{cond}
 use Prim.Native.Nat.{ℕ}
 use lib.Dec.{eqb}
-use Rattle.card.specs.Answer.{Answer, given, refused}
+use Rattle.card.specs.Answer.{given, refused}
 use Rattle.card.proofs.Unique.{told-once}
 use Rattle.board.specs.Judged.{Verdict}
 use Rattle.board.specs.Refusal.{numberOf, examinedTold}

@@ -5,7 +5,7 @@ use Prim.Native.Nat.{ℕ, _+_, _-_, _*_, _/_, _%_}
 use lib.ListN.{length, getD, take, drop}
 use lib.Dec.{leb}
 use Rattle.card.specs.Words.{every, all, listed}
-use Rattle.card.specs.Answer.{Answer, given, refused, unless}
+use Rattle.card.specs.Answer.{unless}
 use Rattle.board.specs.Table.{Table}
 use Rattle.board.specs.Judged.{Verdict, judged}
 use Rattle.board.specs.declared.Board.{Board}

@@ -3,7 +3,7 @@ use mathlib.Core.Path.{_≡_, refl}
 use mathlib.Core.Bool.{Bool, true, false}
 use Prim.Native.Nat.{ℕ}
 use native.Mathlib.Omega.{arith}
-use Rattle.card.specs.Answer.{Answer, given, refused, unless}
+use Rattle.card.specs.Answer.{Answer, given, unless}
 
 pub given-by : {A : Type 0} (ok : Bool) (n : ℕ) (a : Answer A) {x : A} → unless ok n a ≡ given x → (ok ≡ true) × (a ≡ given x)
 given-by true n a e = (refl, e)

@@ -1,7 +1,7 @@
 -- Codes and cards are inverse to each other, and the places 0 to 51 of the pack are exactly the codes that are cards.
-use mathlib.Core.Path.{_≡_, refl, sym, ap, ap₂, _∙_}
-use mathlib.Core.Bool.{Bool, true, false}
-use Prim.Native.Nat.{ℕ, zero, suc, _+_, _-_, _*_, _/_, _%_, _<_, _≤_}
+use mathlib.Core.Path.{_≡_, refl, ap, ap₂, _∙_}
+use mathlib.Core.Bool.{true}
+use Prim.Native.Nat.{ℕ, zero, suc, _+_, _*_, _/_, _%_, _<_, _≤_}
 use native.Mathlib.Omega.{arith}
 use borrow.Author.Tests.{leb-true, ltb-true, le-leb, lt-ltb}
 use lib.Dec.{leb, ltb}
@@ -64,15 +64,6 @@ card-is x e =
 pub is-card : (x : ℕ) → 1 ≤ x / 16 → x / 16 ≤ 13 → x % 16 < 4 → isCard x ≡ true
 unfolding isCard
 is-card x l h s = both (is-value (x / 16) l h) (lt-ltb (x % 16) 4 s)
-
--- no card is 0 or FF, the marks of unused room and of an empty cell
-pub zero-no-card : isCard 0 ≡ false
-unfolding isCard isValue
-zero-no-card = refl
-
-pub empty-no-card : isCard 255 ≡ false
-unfolding isCard isValue
-empty-no-card = refl
 
 -- ---- code and card are inverse
 

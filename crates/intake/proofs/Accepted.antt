@@ -1,13 +1,13 @@
 -- A board that was read or dealt is a fine one.
 use mathlib.Core.Path.{_≡_, refl, sym, ap, _∙_, subst}
 use mathlib.Core.Bool.{Bool, true, false, cond}
-use mathlib.Core.List.{List, [], _∷_, _++_}
+use mathlib.Core.List.{List, [], _∷_}
 use Prim.Native.Nat.{ℕ, zero, suc, _+_, _*_, _<_, _≤_}
 use native.Mathlib.Omega.{arith}
 use borrow.Author.Tests.{leb-true, eqb-true}
 use lib.Dec.{leb, eqb}
 use lib.ListN.{length, getD, take, drop, replicate, length-take, length-drop, getD-replicate}
-use Rattle.card.specs.Words.{every, all, occurs, listed, concat, sum}
+use Rattle.card.specs.Words.{all, occurs, listed, concat, sum}
 use Rattle.card.specs.Answer.{Answer, given, refused, unless}
 use Rattle.card.specs.Card.{isCard}
 use Rattle.card.specs.Pack.{cardAt}
@@ -16,7 +16,7 @@ use Rattle.card.proofs.Sums.{sum-same}
 use Rattle.card.proofs.Answers.{given-by}
 use Rattle.board.specs.Table.{Table}
 use Rattle.board.specs.Judged.{Verdict, fine, after, noneTwice, judged, wellFormed}
-use Rattle.board.specs.Record.{room, atMost, examined, boardOf}
+use Rattle.board.specs.Record.{atMost, examined, boardOf}
 use Rattle.board.specs.Inner.{GoodPiles, Sound, Sized}
 use Rattle.board.specs.declared.Board.{Board}
 use Rattle.board.proofs.Tables.{good-piles}

@@ -1,8 +1,8 @@
 -- Dealing case by case, and the record that an accepted deck fills.
 use mathlib.Core.Path.{_≡_, refl, sym, ap, _∙_}
-use mathlib.Core.Bool.{Bool, true, false, cond}
+use mathlib.Core.Bool.{true, false}
 use mathlib.Core.List.{List, [], _∷_}
-use Prim.Native.Nat.{ℕ, zero, suc, _+_, _*_, _/_, _%_, _<_, _≤_}
+use Prim.Native.Nat.{ℕ, _+_, _*_, _/_, _%_, _<_, _≤_}
 use native.Mathlib.Omega.{arith}
 use native.Mathlib.Decide.{decLt}
 use borrow.Author.Tests.{lt-ltb, le-ltb, eq-eqb, ne-eqb}
@@ -16,7 +16,6 @@ use Rattle.board.specs.Record.{room, boardOf}
 use Rattle.board.proofs.Records.{record-of-columns}
 use Rattle.intake.specs.Deal.{rows, dealtColumn, dealt, dealAsked}
 use Rattle.intake.specs.Inside.{deckCode}
-use Rattle.board.specs.declared.Board.{Board}
 
 module _ (deck : List ℕ) where
   pub no-deck : (length deck ≡ 52 → ⊥) → dealAsked deck ≡ refused 16

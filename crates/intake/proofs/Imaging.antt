@@ -1,19 +1,18 @@
 -- Reading an image case by case, and the record that an accepted one fills.
-use mathlib.Core.Path.{_≡_, refl, sym, ap, _∙_, subst}
-use mathlib.Core.Bool.{Bool, true, false, _&&_}
-use mathlib.Core.List.{List, [], _∷_}
-use Prim.Native.Nat.{ℕ, zero, suc, _+_, _-_, _*_, _/_, _%_, _<_, _≤_}
+use mathlib.Core.Path.{_≡_, refl, sym, ap, _∙_}
+use mathlib.Core.Bool.{true, false}
+use mathlib.Core.List.{List}
+use Prim.Native.Nat.{ℕ, _+_, _-_, _*_, _<_, _≤_}
 use native.Mathlib.Omega.{arith}
 use borrow.Author.Tests.{le-leb, lt-leb, eq-eqb, ne-eqb}
-use lib.Dec.{leb, eqb}
+use lib.Dec.{leb}
 use lib.ListN.{length, getD, take, drop, length-drop}
 use lib.Seq.{drop-drop}
 use Rattle.card.specs.Words.{all, listed}
-use Rattle.card.specs.Answer.{Answer, given, refused, unless}
+use Rattle.card.specs.Answer.{Answer, given, refused}
 use Rattle.card.proofs.Words.{listed-same, second-fails, both}
-use Rattle.board.specs.Table.{Table}
-use Rattle.board.specs.Judged.{Verdict, fine, after, judged}
-use Rattle.board.specs.Record.{room, atMost, boardOf}
+use Rattle.board.specs.Judged.{judged}
+use Rattle.board.specs.Record.{atMost, boardOf}
 use Rattle.intake.specs.Handed.{blank}
 use Rattle.board.specs.Refusal.{numberOf, examinedTold}
 use Rattle.intake.specs.Handed.{readingTold, beside}

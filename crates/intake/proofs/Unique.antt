@@ -1,15 +1,11 @@
 -- Reading and dealing allow one result only: what is said, and every byte of the record beside it.
 use mathlib.Core.Path.{_≡_, refl, sym, ap, ap₂, _∙_}
-use Prim.Native.Nat.{ℕ}
-use native.Mathlib.Omega.{arith}
 use Rattle.card.specs.Answer.{Answer, given, refused}
-use Rattle.board.specs.Refusal.{numberOf}
 use Rattle.board.specs.declared.Board.{Board}
-use Rattle.board.specs.declared.Refusal.{Refusal}
 use Rattle.board.specs.declared.Examined.{Examined}
 use Rattle.board.specs.declared.Examined.the-variants.{WellFormed, Refused}
 use Rattle.board.proofs.Unique.{whyOf, why-law}
-use Rattle.intake.specs.Handed.{boardTold, readingTold, beside, Hands}
+use Rattle.intake.specs.Handed.{boardTold, Hands}
 use Rattle.intake.specs.declared.Reading.{Reading}
 
 back : Answer Board → Examined

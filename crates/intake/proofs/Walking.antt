@@ -1,16 +1,16 @@
 -- Walking over an image's columns: what is left to be read from here is what the whole reading gives.
-use mathlib.Core.Path.{_≡_, refl, sym, ap, _∙_, subst}
-use mathlib.Core.Bool.{Bool, true, false}
+use mathlib.Core.Path.{_≡_, refl, sym, ap, _∙_}
+use mathlib.Core.Bool.{true, false}
 use mathlib.Core.List.{List, [], _∷_, _++_, append-assoc, append-nil}
-use Prim.Native.Nat.{ℕ, zero, suc, _+_, _-_, _<_, _≤_}
+use Prim.Native.Nat.{ℕ, suc, _+_, _-_, _<_, _≤_}
 use native.Mathlib.Numerals.{add-one}
 use native.Mathlib.Omega.{arith}
 use borrow.Author.Count.{below-more}
 use borrow.Author.Tests.{le-leb, lt-leb}
-use lib.ListN.{length, getD, take, drop, set, replicate, length-set, length-replicate, length-drop, drop-of-length-le}
+use lib.ListN.{length, getD, take, drop, set, replicate, length-set, length-drop, drop-of-length-le}
 use lib.Seq.{getD-set-same, getD-set-other, drop-cons, drop-drop}
 use Rattle.card.specs.Words.{listed}
-use Rattle.card.specs.Answer.{Answer, given, refused, unless}
+use Rattle.card.specs.Answer.{Answer, given, refused}
 use Rattle.card.proofs.Words.{true-or-not, listed-same, listed-more}
 use Rattle.board.proofs.Tables.{part-same, part-at}
 use Rattle.intake.specs.Image.{joining, columnsIn}

@@ -1,6 +1,6 @@
 -- What reading and dealing hand over: the board, or a refusal by its number with the blank record beside it.
 use mathlib.Core.Path.{_≡_}
-use Prim.Native.Nat.{ℕ, _*_}
+use Prim.Native.Nat.{_*_}
 use lib.ListN.{replicate}
 use Rattle.card.specs.Answer.{Answer, given, refused}
 use Rattle.board.specs.Record.{room}

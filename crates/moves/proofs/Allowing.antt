@@ -1,33 +1,29 @@
 -- An allowed move keeps all 52 cards and so a well-formed table.
 use mathlib.Core.Path.{_≡_, refl, sym, ap, _∙_, subst}
-use mathlib.Core.Bool.{Bool, true, false, cond, _&&_}
+use mathlib.Core.Bool.{true, _&&_}
 use mathlib.Core.List.{List, [], _∷_, _++_}
-use Prim.Native.Nat.{ℕ, zero, suc, _+_, _-_, _*_, _/_, _%_, _<_, _≤_}
-use native.Mathlib.Nat.{not-suc-le-zero, le-of-suc-le-suc}
+use Prim.Native.Nat.{ℕ, _+_, _-_, _*_, _/_, _%_, _≤_}
 use native.Mathlib.Omega.{arith}
 use native.Mathlib.Decide.{ℕ-discrete}
-use borrow.Author.Tests.{eqb-true, leb-true, ltb-true, eq-eqb, ne-eqb, lt-ltb}
-use lib.Dec.{eqb, leb, ltb}
-use lib.ListN.{length, getD, take, drop, set, length-take, length-drop, length-append, take-append-drop}
+use borrow.Author.Tests.{eqb-true, leb-true}
+use lib.Dec.{eqb, leb}
+use lib.ListN.{length, getD, take, length-take, length-drop}
 use lib.Seq.{ext-getD, getD-take, getD-drop}
-use Rattle.card.specs.Words.{every, all, occurs, listed, concat, sum}
+use Rattle.card.specs.Words.{occurs, listed}
 use Rattle.card.specs.Suit.{suitNumber}
 use Rattle.card.specs.Card.{isCard, isValue, codeOf}
-use Rattle.card.specs.Pack.{cardAt}
 use Rattle.card.specs.declared.Card.{Card}
-use Rattle.card.proofs.Words.{first, second, both, all-append, all-at, all-by, every-at, every-by, listed-more, length-listed, getD-listed}
-use Rattle.card.proofs.Codes.{value-is, code-is-card, suit-below, card-is}
-use Rattle.board.specs.Table.{Table, pile, piles, held, cardsOn}
-use Rattle.board.specs.Judged.{isCell, onlyCards, wellFormed}
-use Rattle.board.specs.Inner.{GoodPiles}
+use Rattle.card.proofs.Words.{first, second, listed-more, length-listed, getD-listed}
+use Rattle.card.proofs.Codes.{code-is-card, suit-below, card-is}
+use Rattle.board.specs.Table.{Table, pile, held, cardsOn}
 use Rattle.board.proofs.Tables.{cell-empty, cell-card}
 use Rattle.rules.specs.Fit.{homeTakes}
 use Rattle.rules.specs.Run.{isRun}
-use Rattle.moves.specs.Move.{Place, column, cell, home, from, to, count, card, isPlace, sayable}
-use Rattle.moves.specs.Play.{there, cellCode, put, lastOf, othersOf, hand, without, afterMove, elsewhere, withinLimit, fitsColumn, cellFree, nextHome, takes, allowed}
+use Rattle.moves.specs.Move.{cell, home, from, to, count, card, isPlace, sayable}
+use Rattle.moves.specs.Play.{there, cellCode, lastOf, othersOf, hand, without, afterMove, elsewhere, withinLimit, fitsColumn, cellFree, nextHome, takes, allowed}
 use Rattle.moves.specs.declared.Move.{Move}
 use Rattle.moves.specs.declared.Move.the-variants.{TableauToTableau, TableauToFoundation, TableauToFreeCell, FreeCellToTableau, FreeCellToFoundation, FoundationToTableau}
-use Rattle.moves.proofs.Keeping.{Seats, Holds, seats-put, move-keeps}
+use Rattle.moves.proofs.Keeping.{Seats, Holds, move-keeps}
 
 -- ---- the tests one by one
 
@@ -185,7 +181,3 @@ allowed-keeps t m s e a x =
     let rest = second (isPlace (from m)) _ e in
     move-keeps x t m s (first (isPlace (from m)) _ e) (first (isPlace (to m)) _ rest) (left-there t m)
     (comes-there t m (second (leb 1 (count m) && leb (count m) 255) (isValue (card m .value)) (second (isPlace (to m)) _ rest)) (allowed-is t m a))
-
-pub seats-after : (t : Table) (m : Move) → Seats t → Seats (afterMove t m)
-unfolding afterMove without
-seats-after t m s = seats-put (without t m) (to m) _ (seats-put t (from m) _ s)

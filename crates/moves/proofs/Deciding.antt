@@ -1,6 +1,6 @@
 -- Deciding whether a move is allowed, test by test, in the order of the causes.
 use mathlib.Core.Path.{_≡_, refl, sym, ap, _∙_}
-use mathlib.Core.Bool.{Bool, true, false, _&&_, and-true}
+use mathlib.Core.Bool.{Bool, true, false, _&&_}
 use mathlib.Core.List.{List, [], _∷_}
 use Prim.Native.Nat.{ℕ, _<_, _≤_}
 use native.Mathlib.Omega.{arith}
@@ -13,7 +13,7 @@ use Rattle.card.specs.Card.{codeOf}
 use Rattle.card.proofs.Words.{true-or-not, both, first, second, first-fails, second-fails}
 use Rattle.board.specs.Table.{Table}
 use Rattle.rules.specs.Run.{isRun}
-use Rattle.moves.specs.Move.{Place, column, cell, home, from, to, count, card}
+use Rattle.moves.specs.Move.{from, to, count, card}
 use Rattle.moves.specs.Play.{there, lastOf, hand, elsewhere, withinLimit, fitsColumn, cellFree, nextHome, takes, causeNumber, played, allowed, afterMove, endsIn}
 use Rattle.moves.specs.declared.Move.{Move}
 use Rattle.moves.proofs.Allowing.{last-length}

@@ -1,23 +1,22 @@
 -- An allowed move on a well-formed table leaves a well-formed table.
-use mathlib.Core.Path.{_≡_, refl, sym, ap, _∙_, subst}
-use mathlib.Core.Bool.{Bool, true, false, cond, _&&_, _||_, or-true}
+use mathlib.Core.Path.{_≡_, refl, sym, ap, _∙_}
+use mathlib.Core.Bool.{Bool, true, _&&_, _||_, or-true}
 use mathlib.Core.List.{List, [], _∷_, _++_}
-use Prim.Native.Nat.{ℕ, zero, suc, _+_, _-_, _*_, _/_, _%_, _<_, _≤_}
-use native.Mathlib.Nat.{not-suc-le-zero, le-of-suc-le-suc}
+use Prim.Native.Nat.{ℕ, zero, suc, _+_, _-_, _*_, _<_, _≤_}
 use native.Mathlib.Omega.{arith}
 use native.Mathlib.Decide.{ℕ-discrete}
-use borrow.Author.Tests.{eqb-true, leb-true, ltb-true, eq-eqb}
-use lib.Dec.{eqb, leb, ltb}
+use borrow.Author.Tests.{eqb-true, ltb-true, eq-eqb}
+use lib.Dec.{eqb, leb}
 use lib.ListN.{length, getD, take, drop, set, length-take, length-append, take-append-drop, length-set}
 use lib.Seq.{getD-set-same, getD-set-other}
-use Rattle.card.specs.Words.{every, all, occurs, listed, concat, sum}
+use Rattle.card.specs.Words.{all, occurs, listed, concat}
 use Rattle.card.specs.Suit.{suitNumber}
 use Rattle.card.specs.Card.{isCard, isValue, codeOf}
 use Rattle.card.specs.Pack.{cardAt}
 use Rattle.card.specs.declared.Card.{Card}
-use Rattle.card.proofs.Words.{first, second, both, all-append, all-at, all-by, every-at, every-by, length-listed}
+use Rattle.card.proofs.Words.{first, second, both, all-append, all-at, every-at, every-by, length-listed}
 use Rattle.card.proofs.Codes.{value-is, suit-below}
-use Rattle.board.specs.Table.{Table, pile, held, cardsOn}
+use Rattle.board.specs.Table.{Table, pile, cardsOn}
 use Rattle.board.specs.Judged.{isCell, onlyCards, wellFormed}
 use Rattle.board.specs.Inner.{GoodPiles}
 use Rattle.board.proofs.Fitting.{pile-cards, held-cards}

@@ -1,22 +1,20 @@
 -- A move keeps the cards: putting other cards at a place changes the table by just those cards.
-use mathlib.Core.Path.{_≡_, refl, sym, ap, _∙_, subst}
-use mathlib.Core.Bool.{Bool, true, false, cond, _&&_}
+use mathlib.Core.Path.{_≡_, sym, ap, _∙_}
+use mathlib.Core.Bool.{true}
 use mathlib.Core.List.{List, [], _∷_, _++_}
-use Prim.Native.Nat.{ℕ, zero, suc, _+_, _-_, _*_, _/_, _%_, _<_, _≤_}
+use Prim.Native.Nat.{ℕ, zero, suc, _+_, _-_, _<_}
 use native.Mathlib.Nat.{not-suc-le-zero, le-of-suc-le-suc}
 use native.Mathlib.Omega.{arith}
 use native.Mathlib.Decide.{ℕ-discrete}
-use borrow.Author.Tests.{eq-eqb, ne-eqb, eqb-true, leb-true, ltb-true}
-use lib.Dec.{eqb, leb}
-use lib.ListN.{length, getD, take, drop, set, length-set, take-append-drop, length-take, length-append}
+use borrow.Author.Tests.{ltb-true}
+use lib.ListN.{length, getD, set, length-set, take-append-drop}
 use lib.Seq.{getD-set-same, getD-set-other}
-use Rattle.card.specs.Words.{all, occurs, listed, concat, sum}
-use Rattle.card.specs.Card.{isCard, codeOf}
-use Rattle.card.proofs.Words.{occurs-none, occurs-append, occurs-concat, first, second, both}
+use Rattle.card.specs.Words.{occurs, concat, sum}
+use Rattle.card.proofs.Words.{occurs-append, occurs-concat}
 use Rattle.card.proofs.Sums.{sum-same}
 use Rattle.board.specs.Table.{Table, pile, piles, held, cardsOn}
 use Rattle.board.proofs.Tables.{held-append}
-use Rattle.moves.specs.Move.{Place, column, cell, home, from, to, count, card, isPlace}
+use Rattle.moves.specs.Move.{Place, column, cell, home, from, to, count, isPlace}
 use Rattle.moves.specs.Play.{there, cellCode, put, lastOf, othersOf, hand, without, afterMove}
 use Rattle.moves.specs.declared.Move.{Move}
 

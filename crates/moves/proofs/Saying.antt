@@ -1,17 +1,17 @@
 -- Record and move say each other.
 use mathlib.Core.Path.{_≡_, refl, sym, ap, ap₂, _∙_, subst}
-use mathlib.Core.Bool.{Bool, true, false, cond, _&&_}
+use mathlib.Core.Bool.{true, false}
 use mathlib.Core.List.{List, [], _∷_}
-use Prim.Native.Nat.{ℕ, zero, suc, _+_, _*_, _/_, _%_, _<_, _≤_}
+use Prim.Native.Nat.{ℕ, zero, suc, _%_, _≤_}
 use native.Mathlib.Omega.{arith}
 use borrow.Author.Tests.{eqb-true, ltb-true, ne-eqb, lt-leb, le-leb, lt-ltb}
-use lib.Dec.{eqb, leb, ltb}
+use lib.Dec.{eqb, ltb}
 use lib.ListN.{length, getD}
 use Rattle.card.specs.Suit.{suitNumber, suitAt}
 use Rattle.card.specs.Card.{isCard, isValue, cardOf, codeOf}
 use Rattle.card.specs.declared.Card.{Card}
 use Rattle.card.specs.declared.Suit.{Suit}
-use Rattle.card.specs.Answer.{Answer, given, refused}
+use Rattle.card.specs.Answer.{given}
 use Rattle.card.proofs.Answers.{given-by}
 use Rattle.card.proofs.Words.{true-or-not, both, first, second}
 use Rattle.card.proofs.Codes.{card-is, value-of-card, card-code, code-card, suit-below, suit-at-number, number-suit-at}

@@ -1,10 +1,9 @@
 -- A move, as a player says it: from a place, to a place, so many cards, the deepest of them named.
-use mathlib.Core.Bool.{Bool, true, false, cond, _&&_}
-use mathlib.Core.List.{List, [], _∷_}
+use mathlib.Core.Bool.{Bool, _&&_}
 use Prim.Native.Nat.{ℕ}
-use lib.Dec.{eqb, leb, ltb}
+use lib.Dec.{leb, ltb}
 use Rattle.card.specs.Suit.{suitNumber}
-use Rattle.card.specs.Card.{isValue, codeOf}
+use Rattle.card.specs.Card.{isValue}
 use Rattle.card.specs.declared.Card.{Card}
 use Rattle.moves.specs.declared.Move.{Move}
 use Rattle.moves.specs.declared.Move.the-variants.{TableauToTableau, TableauToFoundation, TableauToFreeCell, FreeCellToTableau, FreeCellToFoundation, FoundationToTableau}

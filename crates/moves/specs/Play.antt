@@ -1,10 +1,10 @@
 -- What a move does, once for all kinds: cards are taken up at one place and put down at another.
-use mathlib.Core.Bool.{Bool, true, false, cond, not, _&&_}
+use mathlib.Core.Bool.{Bool, true, not, _&&_}
 use mathlib.Core.List.{List, [], _∷_, _++_}
 use Prim.Native.Nat.{ℕ, _-_}
 use lib.Dec.{eqb, leb}
 use lib.ListN.{length, getD, take, drop, set}
-use Rattle.card.specs.Answer.{Answer, given, refused, unless}
+use Rattle.card.specs.Answer.{Answer, given, unless}
 use Rattle.card.specs.Card.{codeOf}
 use Rattle.board.specs.Table.{Table, pile, held}
 use Rattle.rules.specs.Fit.{fitsOn, homeTakes}

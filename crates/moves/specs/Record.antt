@@ -1,5 +1,5 @@
 -- The five-byte record of a move: kind, from, to, count, code of the deepest moved card.
-use mathlib.Core.Bool.{Bool, true, false, cond, _&&_}
+use mathlib.Core.Bool.{Bool, true, cond, _&&_}
 use mathlib.Core.List.{List, [], _∷_}
 use Prim.Native.Nat.{ℕ, _%_}
 use lib.Dec.{eqb, leb, ltb}
@@ -7,7 +7,6 @@ use lib.ListN.{length, getD}
 use Rattle.card.specs.Answer.{Answer, given, refused, unless}
 use Rattle.card.specs.Suit.{suitNumber, suitAt}
 use Rattle.card.specs.Card.{isCard, codeOf, cardOf}
-use Rattle.board.specs.Refusal.{numberOf}
 use Rattle.moves.specs.Move.{sayable}
 use Rattle.moves.specs.declared.Move.{Move}
 use Rattle.moves.specs.declared.Move.the-variants.{TableauToTableau, TableauToFoundation, TableauToFreeCell, FreeCellToTableau, FreeCellToFoundation, FoundationToTableau}

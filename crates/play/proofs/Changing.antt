@@ -1,8 +1,8 @@
 -- A record of which one column is changed shows the table with that column changed.
 use mathlib.Core.Path.{_≡_, refl, sym, ap, _∙_, subst}
-use mathlib.Core.Bool.{Bool, true, false}
+use mathlib.Core.Bool.{true}
 use mathlib.Core.List.{List, [], _∷_, _++_}
-use Prim.Native.Nat.{ℕ, zero, suc, _+_, _-_, _*_, _/_, _%_, _<_, _≤_}
+use Prim.Native.Nat.{ℕ, zero, _+_, _-_, _*_, _<_, _≤_}
 use native.Mathlib.Omega.{arith}
 use native.Mathlib.Decide.{ℕ-discrete, decLt}
 use borrow.Author.Count.{below-more}
@@ -11,13 +11,12 @@ use lib.Seq.{ext-getD, getD-set-same, getD-set-other, getD-append-seam, getD-app
 use Rattle.card.specs.Words.{all, listed}
 use Rattle.card.specs.Card.{isCard}
 use Rattle.card.proofs.Words.{first, second, all-at, all-by, all-append, both, length-listed, getD-listed}
-use Rattle.board.specs.Table.{Table}
 use Rattle.board.specs.Record.{room, columnAt, shown}
 use Rattle.board.specs.Inner.{GoodColumns}
 use Rattle.board.specs.declared.Board.{Board}
 use Rattle.board.proofs.Soundness.{column-length, column-code}
 use Rattle.questions.proofs.Asking.{shown-column}
-use Rattle.moves.specs.Move.{Place, column, cell, home}
+use Rattle.moves.specs.Move.{column, cell, home}
 use Rattle.moves.specs.Play.{put, there, othersOf, lastOf, cellCode}
 use Rattle.play.specs.Change.{Becomes, Cleared, Apart, Copied}
 

@@ -1,13 +1,13 @@
 -- Two changes of a record, one after the other, are a move.
 use mathlib.Core.Path.{_≡_, refl, sym, ap, _∙_, subst}
-use mathlib.Core.Bool.{Bool, true, false, not, _&&_}
+use mathlib.Core.Bool.{true, _&&_}
 use mathlib.Core.List.{List, [], _∷_, _++_}
-use Prim.Native.Nat.{ℕ, zero, suc, _+_, _-_, _*_, _<_, _≤_}
+use Prim.Native.Nat.{ℕ, _+_, _-_, _*_, _<_, _≤_}
 use native.Mathlib.Omega.{arith}
 use native.Mathlib.Decide.{ℕ-discrete}
-use borrow.Author.Tests.{eqb-true, eqb-false, ltb-true, leb-true, not-true}
-use lib.Dec.{eqb, leb, ltb}
-use lib.ListN.{length, getD, set, length-set, length-append, length-drop, length-take}
+use borrow.Author.Tests.{eqb-true, eqb-false, ltb-true, not-true}
+use lib.Dec.{eqb, leb}
+use lib.ListN.{length, getD, length-set, length-append, length-drop, length-take}
 use lib.Seq.{getD-set-other, getD-set-same, set-comm}
 use Rattle.card.specs.Words.{listed}
 use Rattle.card.specs.Card.{isCard, isValue, codeOf}
@@ -17,18 +17,16 @@ use Rattle.card.specs.declared.Suit.{Suit}
 use Rattle.card.proofs.Codes.{code-is-card}
 use Rattle.card.proofs.Words.{first, second, length-listed}
 use Rattle.board.specs.Table.{Table, pile, held}
-use Rattle.board.specs.Judged.{fine, judged, wellFormed}
-use Rattle.board.specs.Record.{room, columnAt, shown, boardOf}
-use Rattle.board.specs.Inner.{GoodCells, GoodPiles, GoodColumns, Sound}
+use Rattle.board.specs.Record.{room, columnAt, shown}
+use Rattle.board.specs.Inner.{GoodPiles, GoodColumns, Sound}
 use Rattle.board.specs.declared.Board.{Board}
 use Rattle.board.proofs.Soundness.{fair, fine-fair, sound-shape, sound-fine, column-length}
 use Rattle.board.proofs.Judging.{good-shape}
 use Rattle.board.proofs.Tables.{cell-empty, cell-card}
-use Rattle.board.proofs.Records.{Laid, record-of-shown}
 use Rattle.board.proofs.Fitting.{fits}
 use Rattle.questions.proofs.Asking.{shown-column, shown-columns, shown-cells, shown-foundation}
 use Rattle.moves.specs.Move.{Place, column, cell, home, from, to, count, card, isPlace, sayable}
-use Rattle.moves.specs.Play.{there, cellCode, put, lastOf, othersOf, hand, without, afterMove, cellFree, allowed}
+use Rattle.moves.specs.Play.{there, cellCode, put, lastOf, othersOf, hand, without, afterMove, cellFree}
 use Rattle.moves.specs.declared.Move.{Move}
 use Rattle.moves.specs.declared.Move.the-variants.{TableauToTableau, TableauToFoundation, TableauToFreeCell, FreeCellToTableau, FreeCellToFoundation, FoundationToTableau}
 use Rattle.moves.proofs.Keeping.{Seats, seats-put}
@@ -236,9 +234,6 @@ module _ (b : Board) (m : Move) {r1 : Board} (e : Becomes r1 (without (shown b) 
 
   foundation-there : u .foundation ≡ r1 .foundation
   foundation-there = sym (ap (λ (y : Table). y .foundation) (e .shows)) ∙ sym (shown-foundation r1)
-
-  cells-there : u .cells ≡ r1 .cells
-  cells-there = sym (ap (λ (y : Table). y .cells) (e .shows)) ∙ sym (shown-cells r1)
 
   pub home-step : {r2 : Board} (k : ℕ) → to m ≡ home k
       → ((l : List ℕ) → getD (r1 .foundation) k 0 + 1 ≡ length l → Becomes r2 (put (shown r1) (home k) l)) → Becomes r2 (afterMove (shown b) m)

@@ -1,29 +1,28 @@
 -- Deciding a run from column to column, test by test, on a record.
-use mathlib.Core.Path.{_≡_, refl, sym, ap, _∙_, subst}
+use mathlib.Core.Path.{_≡_, sym, ap, _∙_}
 use mathlib.Core.Bool.{Bool, true, false, not, _&&_}
-use mathlib.Core.List.{List, [], _∷_}
-use Prim.Native.Nat.{ℕ, zero, suc, _+_, _-_, _*_, _<_, _≤_}
+use mathlib.Core.List.{List}
+use Prim.Native.Nat.{ℕ, _+_, _-_, _*_, _<_, _≤_}
 use native.Mathlib.Omega.{arith}
 use borrow.Author.Tests.{eq-eqb, ne-eqb, le-leb, lt-leb, ltb-true}
-use lib.Dec.{eqb, leb}
-use lib.ListN.{length, getD, drop}
+use lib.Dec.{leb}
+use lib.ListN.{length, getD}
 use lib.Seq.{getD-drop}
 use Rattle.card.specs.Words.{listed}
 use Rattle.card.specs.Card.{codeOf}
 use Rattle.card.specs.declared.Card.{Card}
 use Rattle.card.proofs.Words.{first-fails, second-fails}
-use Rattle.board.specs.Table.{Table}
-use Rattle.board.specs.Record.{room, columnAt, shown}
+use Rattle.board.specs.Record.{columnAt, shown}
 use Rattle.board.specs.Inner.{Sound}
 use Rattle.board.specs.declared.Board.{Board}
-use Rattle.board.proofs.Soundness.{column-length, column-code}
+use Rattle.board.proofs.Soundness.{column-code}
 use Rattle.questions.proofs.Asking.{shown-column, shown-columns, shown-cells}
 use Rattle.rules.specs.Fit.{fitsOn}
 use Rattle.rules.specs.Run.{isRun, runLength}
 use Rattle.rules.specs.Limit.{mostMoved}
 use Rattle.rules.proofs.Laying.{run-top}
 use Rattle.moves.specs.Move.{column, sayable}
-use Rattle.moves.specs.Play.{there, lastOf, hand, withinLimit, takes, allowed}
+use Rattle.moves.specs.Play.{there, lastOf, hand, takes, allowed}
 use Rattle.moves.specs.declared.Move.the-variants.{TableauToTableau}
 use Rattle.moves.proofs.Records.{said-from, said-to, said-count}
 use Rattle.moves.proofs.Deciding.{deny-away, deny-enough, deny-named, others-decide}

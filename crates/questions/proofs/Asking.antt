@@ -1,15 +1,14 @@
 -- The plain questions: the refusals of a record first, and what the places say of the answers.
-use mathlib.Core.Path.{_≡_, refl, sym, ap, _∙_, subst}
-use mathlib.Core.Bool.{Bool, true, false, cond}
+use mathlib.Core.Path.{_≡_, refl, sym, ap, _∙_}
+use mathlib.Core.Bool.{cond}
 use mathlib.Core.List.{List, [], _∷_}
 use Prim.Native.Nat.{ℕ, zero, suc, _+_, _-_, _*_, _<_, _≤_}
-use native.Mathlib.Numerals.{add-one}
 use native.Mathlib.Omega.{arith}
 use lib.Dec.{eqb, ltb}
 use borrow.Author.Tests.{lt-ltb, le-ltb}
 use lib.ListN.{length, getD}
 use Rattle.card.specs.Words.{sum, listed}
-use Rattle.card.specs.Answer.{Answer, given, refused, unless}
+use Rattle.card.specs.Answer.{Answer, refused, unless}
 use Rattle.card.specs.Card.{cardOf}
 use Rattle.card.proofs.Words.{getD-listed}
 use Rattle.card.proofs.Sums.{sum-same}
@@ -17,7 +16,7 @@ use Rattle.board.specs.Judged.{Verdict, fine, after}
 use Rattle.board.specs.Record.{columnAt, shown}
 use Rattle.board.specs.Refusal.{numberOf, examinedTold}
 use Rattle.questions.specs.Questions.{topOf, emptyCells, emptyColumns}
-use Rattle.board.specs.Inner.{GoodCells, GoodColumns}
+use Rattle.board.specs.Inner.{GoodColumns}
 use Rattle.board.specs.declared.Board.{Board}
 use Rattle.questions.specs.declared.Top.the-variants.{Is, Empty}
 use Rattle.board.specs.declared.Refusal.{Refusal}

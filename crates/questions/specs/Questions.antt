@@ -7,7 +7,6 @@ use lib.Dec.{eqb, ltb}
 use Rattle.card.specs.Words.{every, sum}
 use Rattle.card.specs.Answer.{Answer, given, unless}
 use Rattle.card.specs.Card.{cardOf}
-use Rattle.board.specs.Table.{Table}
 use Rattle.board.specs.Judged.{after}
 use Rattle.board.specs.Record.{examined, shown}
 use Rattle.board.specs.declared.Board.{Board}

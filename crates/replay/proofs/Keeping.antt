@@ -1,19 +1,18 @@
 -- A replayed list keeps the 52 cards and a well-formed board; and replaying a list and then another is replaying both.
 use mathlib.Core.Path.{_≡_, refl, sym, ap, _∙_, subst}
 use mathlib.Core.Bool.{Bool, true, false}
-use mathlib.Core.List.{List, [], _∷_, _++_}
-use Prim.Native.Nat.{ℕ, zero, suc, _+_, _*_, _/_, _%_, _<_, _≤_}
+use mathlib.Core.List.{List, _++_}
+use Prim.Native.Nat.{ℕ, zero, suc, _+_, _/_, _%_, _≤_}
 use native.Mathlib.Omega.{arith}
 use borrow.Author.Tests.{leb-true, eqb-true}
-use lib.Dec.{eqb, leb}
+use lib.Dec.{leb}
 use lib.ListN.{length, getD, take, drop, length-drop, length-append}
 use lib.Seq.{getD-take, getD-drop}
 use Rattle.card.specs.Words.{occurs}
 use Rattle.card.specs.Answer.{Answer, given, refused}
 use Rattle.card.proofs.Words.{first, second}
 use Rattle.board.specs.Table.{cardsOn}
-use Rattle.board.specs.Judged.{fine}
-use Rattle.board.specs.Record.{examined, shown, boardOf}
+use Rattle.board.specs.Record.{shown, boardOf}
 use Rattle.board.specs.Inner.{Sound}
 use Rattle.board.specs.declared.Board.{Board}
 use Rattle.board.specs.declared.Examined.the-variants.{WellFormed}

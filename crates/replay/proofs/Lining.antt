@@ -1,10 +1,9 @@
 -- A line is replayed record by record; a line after a line is their line together.
-use mathlib.Core.Path.{_≡_, refl, sym, ap, ap₂, _∙_, subst}
-use mathlib.Core.Bool.{Bool, true, false}
+use mathlib.Core.Path.{_≡_, refl, sym, ap, ap₂, _∙_}
 use mathlib.Core.List.{List, [], _∷_, _++_}
 use Prim.Native.Nat.{ℕ, zero, suc, _+_, _-_, _*_, _/_, _%_, _<_, _≤_}
 use native.Mathlib.Omega.{arith}
-use lib.ListN.{length, take, drop, length-drop, length-append, drop-of-length-le}
+use lib.ListN.{length, take, drop, length-drop, length-append}
 use lib.Seq.{drop-drop, take-append-le, drop-append-le}
 use Rattle.card.specs.Words.{listed}
 use Rattle.card.specs.Answer.{Answer, given, refused}
@@ -17,7 +16,7 @@ use Rattle.board.specs.declared.Refusal.{Refusal}
 use Rattle.board.specs.declared.Examined.the-variants.{WellFormed, Refused}
 use Rattle.replay.specs.Step.{stepped}
 use Rattle.replay.specs.Handed.{Ends}
-use Rattle.replay.specs.Line.{Ending, stopped, oneMore, goOn, lineFrom, recordsIn, continued}
+use Rattle.replay.specs.Line.{Ending, oneMore, goOn, lineFrom, recordsIn, continued}
 
 -- ---- records in bytes
 

@@ -1,11 +1,11 @@
 -- Replay as it is asked for: the refusals of the board and of the list, then the line; and a list after a list.
-use mathlib.Core.Path.{_≡_, refl, sym, ap, _∙_, subst}
+use mathlib.Core.Path.{_≡_, sym, ap, _∙_}
 use mathlib.Core.Bool.{Bool, true, false}
-use mathlib.Core.List.{List, [], _∷_, _++_}
-use Prim.Native.Nat.{ℕ, zero, suc, _+_, _*_, _/_, _%_, _<_, _≤_}
+use mathlib.Core.List.{List}
+use Prim.Native.Nat.{ℕ, _%_, _<_, _≤_}
 use native.Mathlib.Omega.{arith}
 use borrow.Author.Tests.{lt-leb, le-leb, eq-eqb, ne-eqb}
-use lib.Dec.{eqb, leb}
+use lib.Dec.{leb}
 use lib.ListN.{length}
 use Rattle.card.specs.Answer.{unless}
 use Rattle.card.proofs.Words.{both, first-fails, second-fails}
@@ -16,7 +16,7 @@ use Rattle.board.specs.declared.Board.{Board}
 use Rattle.board.specs.declared.Refusal.{Refusal}
 use Rattle.board.specs.declared.Examined.{Examined}
 use Rattle.board.specs.declared.Examined.the-variants.{WellFormed, Refused}
-use Rattle.replay.specs.Line.{Ending, stopped, lineFrom, recordsIn, isLine, ifFine, replayed}
+use Rattle.replay.specs.Line.{stopped, lineFrom, recordsIn, isLine, ifFine, replayed}
 
 -- ---- when some bytes are a list of moves
 

@@ -1,20 +1,19 @@
 -- One move on a board: its answer, and the board after it is well formed again.
-use mathlib.Core.Path.{_≡_, refl, sym, ap, _∙_, subst}
+use mathlib.Core.Path.{_≡_, sym, ap, _∙_}
 use mathlib.Core.Bool.{Bool, true, false}
 use mathlib.Core.List.{List}
-use Prim.Native.Nat.{ℕ, _≤_}
+use Prim.Native.Nat.{ℕ}
 use native.Mathlib.Omega.{arith}
 use Rattle.card.specs.Words.{occurs}
 use Rattle.card.specs.Answer.{Answer, given, refused, unless}
 use Rattle.card.proofs.Words.{length-listed}
 use Rattle.board.specs.Table.{Table, cardsOn}
-use Rattle.board.specs.Judged.{Verdict, fine, wellFormed}
+use Rattle.board.specs.Judged.{fine}
 use Rattle.board.specs.Record.{columnAt, shown, boardOf}
 use Rattle.board.specs.Refusal.{numberOf, examinedTold}
 use Rattle.board.specs.Inner.{Sound}
 use Rattle.board.specs.declared.Board.{Board}
 use Rattle.board.specs.declared.Refusal.{Refusal}
-use Rattle.board.specs.declared.Examined.{Examined}
 use Rattle.board.specs.declared.Examined.the-variants.{WellFormed, Refused}
 use Rattle.board.proofs.Judging.{good-shape}
 use Rattle.board.proofs.Soundness.{sound, sound-shape, sound-fine, fair, fine-fair}

@@ -1,6 +1,5 @@
 -- What one move and replay hand back.
 use mathlib.Core.Path.{_≡_}
-use Prim.Native.Nat.{ℕ}
 use Rattle.card.specs.Answer.{Answer, given, refused}
 use Rattle.board.specs.Judged.{Verdict, fine}
 use Rattle.board.specs.Refusal.{examinedTold}

@@ -9,7 +9,6 @@ use native.Mathlib.Omega.{arith}
 use borrow.Author.Tests.{eq-eqb, ne-eqb, eqb-true, le-leb, lt-leb}
 use lib.Dec.{eqb, leb}
 use lib.ListN.{length, getD, drop}
-use lib.Seq.{drop-cons, drop-length}
 use lib.Pow.{pow-mono, pow-pos}
 use Rattle.card.specs.Words.{all, sum, listed}
 use Rattle.card.specs.Card.{isCard}

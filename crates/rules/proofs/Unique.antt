@@ -1,7 +1,6 @@
 -- Every promise of this crate allows one result only (the counts are told as those of `questions` are: `count-once` there).
 use mathlib.Core.Path.{_≡_, refl, ap}
 use mathlib.Core.Bool.{Bool, true, false}
-use Prim.Native.Nat.{ℕ}
 use Rattle.card.specs.Answer.{Answer, given, refused}
 use Rattle.card.proofs.Unique.{told-once}
 use Rattle.board.proofs.Unique.{whyOf, why-law}

@@ -1,5 +1,4 @@
 -- What `card_of` leaves to be shown: the definition is the same record.
-use mathlib.Core.Path.{_≡_}
 use borrow.Author.Needs.{needs}
 use Rattle.card.specs.Card.{cardOf}
 use Rattle.card.proofs.card_of.Statement.{statement}

@@ -1,6 +1,6 @@
 -- What `is_card` leaves to be shown: the first test that fails decides, and past both the suit does.
-use mathlib.Core.Path.{_≡_, ap, sym, _∙_}
-use mathlib.Core.Bool.{Bool, true, false, _&&_}
+use mathlib.Core.Path.{ap, sym}
+use mathlib.Core.Bool.{Bool, _&&_}
 use Prim.Native.Nat.{ℕ, _/_, _%_}
 use lib.Dec.{leb, ltb}
 use borrow.Author.Tests.{lt-leb}

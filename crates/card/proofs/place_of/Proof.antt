@@ -1,6 +1,5 @@
 -- What `place_of` leaves to be shown: a card's value is at least 1, and the sums fit.
 use borrow.Author.Needs.{needs}
-use native.Mathlib.Omega.{arith}
 use Rattle.card.specs.Pack.{placeOf}
 use Rattle.card.proofs.Codes.{card-is}
 use Rattle.card.proofs.place_of.Statement.{statement}

@@ -1,11 +1,9 @@
 -- What `apply_record_at` leaves to be shown: the record's move is made, or the record is impossible.
 use mathlib.Core.Path.{sym, ap, _∙_, subst}
-use mathlib.Core.Bool.{Bool, true}
 use Rattle.card.specs.Answer.{Answer}
 use Rattle.board.specs.declared.Board.{Board}
 use Rattle.board.specs.declared.Refusal.the-variants.{OutOfRange}
 use Rattle.moves.specs.Record.{sayableTold}
-use Rattle.moves.specs.declared.Decoded.{Decoded}
 use Rattle.replay.specs.Handed.{Moves}
 use Rattle.replay.proofs.Stepping.{moves-no, step-said, step-none}
 use borrow.Author.Needs.{needs}

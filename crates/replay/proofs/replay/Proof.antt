@@ -1,5 +1,5 @@
 -- What `replay` leaves to be shown: the board's refusals, then the list's, then the line.
-use mathlib.Core.Path.{_≡_, sym, subst}
+use mathlib.Core.Path.{sym, subst}
 use native.Mathlib.Omega.{arith}
 use Rattle.board.specs.declared.Refusal.the-variants.{WrongList}
 use Rattle.board.proofs.Soundness.{sound}

@@ -1,5 +1,5 @@
 -- What `replay_at` leaves to be shown: what is left to replay ends as the whole line does.
-use mathlib.Core.Path.{_≡_, sym, ap, _∙_, subst}
+use mathlib.Core.Path.{sym, ap, _∙_}
 use Prim.Native.Nat.{_-_}
 use native.Mathlib.Omega.{arith}
 use lib.ListN.{length}

@@ -1,8 +1,7 @@
 -- What `mark_all` leaves to be shown: a loop over lists of one card each.
-use mathlib.Core.Path.{_≡_, subst}
-use mathlib.Core.Bool.{true}
+use mathlib.Core.Path.{subst}
 use mathlib.Core.List.{List, _∷_, []}
-use Prim.Native.Nat.{ℕ, _-_, _≤_, _<_}
+use Prim.Native.Nat.{ℕ, _-_}
 use lib.ListN.{length, getD}
 use borrow.Author.Needs.{needs}
 use Rattle.card.specs.Words.{listed, concat}

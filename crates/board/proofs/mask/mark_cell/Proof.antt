@@ -1,8 +1,7 @@
 -- What `mark_cell` leaves to be shown: an empty cell adds nothing, any other its card.
-use mathlib.Core.Path.{_≡_, sym, subst}
-use mathlib.Core.List.{List, _∷_, []}
-use Prim.Native.Nat.{ℕ, _^_, _<_}
-use borrow.Author.Needs.{needs}
+use mathlib.Core.Path.{sym, subst}
+use mathlib.Core.List.{List}
+use Prim.Native.Nat.{ℕ}
 use Rattle.board.specs.Inner.{Marks}
 use Rattle.board.specs.declared.Seen.the-variants.{Cards}
 use Rattle.board.proofs.Marks.{marks-none}

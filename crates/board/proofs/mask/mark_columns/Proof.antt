@@ -1,12 +1,10 @@
 -- What `mark_columns` leaves to be shown: a loop over the eight parts.
 use mathlib.Core.Path.{_≡_, sym, _∙_, subst}
-use mathlib.Core.List.{List, _∷_, []}
-use Prim.Native.Nat.{ℕ, _+_, _-_, _*_, _<_}
+use mathlib.Core.List.{List}
+use Prim.Native.Nat.{ℕ, _-_, _<_}
 use native.Mathlib.Omega.{arith}
-use lib.ListN.{length, getD}
 use Rattle.card.specs.Words.{listed, concat}
 use Rattle.board.specs.Inner.{Marks}
-use Rattle.board.specs.declared.Seen.{Seen}
 use Rattle.board.proofs.Marks.{Passed, pass-none, pass-more, pass-stop, pass-end}
 use mathlib.Core.Bool.{true}
 use Rattle.card.specs.Words.{all}

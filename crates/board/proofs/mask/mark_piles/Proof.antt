@@ -1,9 +1,8 @@
 -- What `mark_piles` leaves to be shown: a loop over the four piles.
-use mathlib.Core.Path.{_≡_, sym, _∙_, subst}
-use mathlib.Core.List.{List, _∷_, []}
-use Prim.Native.Nat.{ℕ, _+_, _-_, _*_, _<_}
+use mathlib.Core.List.{List}
+use Prim.Native.Nat.{ℕ, _-_}
 use native.Mathlib.Omega.{arith}
-use lib.ListN.{length, getD}
+use lib.ListN.{getD}
 use Rattle.card.specs.Words.{listed, concat}
 use Rattle.board.specs.Inner.{Marks}
 use Rattle.board.specs.declared.Seen.{Seen}

@@ -1,5 +1,4 @@
 -- What `decode` leaves to be shown: the test is the definition's, and past it the card is.
-use mathlib.Core.Path.{_≡_, ap, sym, _∙_}
 use borrow.Author.Needs.{needs}
 use Rattle.card.specs.Card.{cardAsked}
 use Rattle.card.proofs.Card.decode.Statement.{statement}

@@ -1,6 +1,4 @@
 -- What `from_u8` leaves to be shown: the test is the definition's, and past it the suit is.
-use mathlib.Core.Path.{_≡_}
-use Prim.Native.Nat.{ℕ}
 use borrow.Author.Needs.{needs}
 use borrow.Author.Tests.{le-ltb, lt-ltb}
 use native.Mathlib.Omega.{arith}
