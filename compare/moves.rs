@@ -27,7 +27,9 @@ pub mod shared;
 use common::card::{Card, Suit};
 use freecell::board::{FreeCellBoard, FreeCellMove};
 use freecell::solver::deal;
-use shared::{code, code_or_none, drawn_move, image, moves_by_kind, won_board, Draws};
+use shared::{
+    code, code_or_none, drawn_move, image, is_long, made_up, moves_by_kind, won_board, Draws,
+};
 
 const ROOM: usize = 4200;
 
@@ -139,7 +141,11 @@ fn hex(bytes: &[u8]) -> String {
 // Cells, foundation counts, columns, and how many bytes of unused room are not zero.
 fn board_text(board: &FreeCellBoard) -> String {
     let cells = board.free_cells.map(code_or_none);
-    let piles: Vec<u8> = board.foundation.iter().map(|pile| pile.len() as u8).collect();
+    let piles: Vec<u8> = board
+        .foundation
+        .iter()
+        .map(|pile| pile.len() as u8)
+        .collect();
     let columns: String = board
         .tableau
         .iter()
@@ -160,7 +166,10 @@ fn moved_text(given: &FreeCellBoard, board: &FreeCellBoard) -> String {
 fn limits(board: &FreeCellBoard) -> String {
     let runs = (0..8).map(|i| board.max_tableau_run_length(i));
     let most = (0..8).map(|i| board.max_movable_cards(i));
-    runs.chain(most).map(|n| format!("{n} ")).collect::<String>() + "\n"
+    runs.chain(most)
+        .map(|n| format!("{n} "))
+        .collect::<String>()
+        + "\n"
 }
 
 fn takers(board: &FreeCellBoard) -> String {
@@ -271,8 +280,16 @@ fn records(draws: &mut Draws, board: &FreeCellBoard) -> Vec<[u8; 5]> {
     for _ in 0..3 {
         let card = (draws.below(13) as u8 + 1) * 16 + draws.below(4) as u8;
         let kind = draws.below(8) as u8;
-        let count = if kind == 1 { draws.below(4) as u8 + 1 } else { 1 };
-        let to = if kind == 2 || kind == 5 { card % 16 } else { draws.below(8) as u8 };
+        let count = if kind == 1 {
+            draws.below(4) as u8 + 1
+        } else {
+            1
+        };
+        let to = if kind == 2 || kind == 5 {
+            card % 16
+        } else {
+            draws.below(8) as u8
+        };
         found.push([kind, draws.below(8) as u8, to, count, card]);
     }
     // a card on its own column, and the top card of a column where it fits or not
@@ -318,41 +335,6 @@ fn list(draws: &mut Draws, board: &FreeCellBoard, turn: usize) -> Vec<u8> {
         _ => {}
     }
     list
-}
-
-// A board that nobody dealt: some cards home, some in cells, the rest in columns of at most `most` cards.
-fn made_up(draws: &mut Draws, home: usize, held: usize, most: usize) -> FreeCellBoard {
-    let counts: Vec<usize> = (0..4).map(|_| draws.below(home + 1)).collect();
-    let mut piles: [Vec<Card>; 4] = Default::default();
-    let mut others = Vec::new();
-    for card in draws.shuffled() {
-        let suit = card.suit as usize;
-        if (card.value as usize) <= counts[suit] {
-            piles[suit].push(card);
-        } else {
-            others.push(card);
-        }
-    }
-    for pile in piles.iter_mut() {
-        pile.sort_by_key(|card| card.value);
-    }
-    let mut cells = [None; 4];
-    for cell in cells.iter_mut().take(held) {
-        *cell = others.pop();
-    }
-    let mut columns: [Vec<Card>; 8] = Default::default();
-    for card in others {
-        let mut i = draws.below(8);
-        while columns[i].len() >= most {
-            i = (i + 1) % 8;
-        }
-        columns[i].push(card);
-    }
-    FreeCellBoard::new(cells, piles, columns)
-}
-
-fn is_long(board: &FreeCellBoard) -> bool {
-    board.tableau.iter().any(|column| column.len() > 7)
 }
 
 fn boards(draws: &mut Draws) -> Vec<FreeCellBoard> {
@@ -420,8 +402,14 @@ fn main() {
         sheet.boards,
         long.len()
     );
-    eprintln!("legal moves by kind, 1 to 6: {:?}; refused: {}", sheet.legal, sheet.refused);
-    eprintln!("lists: {}; stopped at a bad move: {}", sheet.lists, sheet.stopped);
+    eprintln!(
+        "legal moves by kind, 1 to 6: {:?}; refused: {}",
+        sheet.legal, sheet.refused
+    );
+    eprintln!(
+        "lists: {}; stopped at a bad move: {}",
+        sheet.lists, sheet.stopped
+    );
     assert!(sheet.input.len() < 60_000);
     std::fs::write(&names[0], &sheet.input).unwrap();
     std::fs::write(&names[1], &sheet.output).unwrap();

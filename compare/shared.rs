@@ -1,4 +1,4 @@
-// What both drivers need: draws, codes and images, and a legal move drawn by its kind.
+// What the drivers need: draws, codes and images, and a legal move drawn by its kind.
 use crate::common::card::{Card, Suit};
 use crate::freecell::board::{FreeCellBoard, FreeCellMove};
 
@@ -82,4 +82,40 @@ pub fn drawn_move(
     let kind = chances[draws.below(chances.len())];
     let step = kinds[kind][draws.below(kinds[kind].len())].clone();
     Some((kind, step))
+}
+
+// A board that nobody dealt: some cards home, some in cells, the rest in columns of at most `most` cards.
+pub fn made_up(draws: &mut Draws, home: usize, held: usize, most: usize) -> FreeCellBoard {
+    let counts: Vec<usize> = (0..4).map(|_| draws.below(home + 1)).collect();
+    let mut piles: [Vec<Card>; 4] = Default::default();
+    let mut others = Vec::new();
+    for card in draws.shuffled() {
+        let suit = card.suit as usize;
+        if (card.value as usize) <= counts[suit] {
+            piles[suit].push(card);
+        } else {
+            others.push(card);
+        }
+    }
+    for pile in piles.iter_mut() {
+        pile.sort_by_key(|card| card.value);
+    }
+    let mut cells = [None; 4];
+    for cell in cells.iter_mut().take(held) {
+        *cell = others.pop();
+    }
+    let mut columns: [Vec<Card>; 8] = Default::default();
+    for card in others {
+        let mut i = draws.below(8);
+        while columns[i].len() >= most {
+            i = (i + 1) % 8;
+        }
+        columns[i].push(card);
+    }
+    FreeCellBoard::new(cells, piles, columns)
+}
+
+// A column over seven cards.
+pub fn is_long(board: &FreeCellBoard) -> bool {
+    board.tableau.iter().any(|column| column.len() > 7)
 }
