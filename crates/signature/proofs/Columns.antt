@@ -1,13 +1,11 @@
--- A column as a part of the flat array, and the array of the eight hashes as it is filled.
-use mathlib.Core.Path.{_≡_, refl, sym, ap, _∙_}
+-- A column as a part of the flat array, and the hashes of the eight.
+use mathlib.Core.Path.{_≡_, sym, ap}
 use mathlib.Core.List.{List, []}
-use Prim.Native.Nat.{ℕ, _+_, _-_, _*_, _<_, _≤_}
-use native.Mathlib.Numerals.{add-one}
+use Prim.Native.Nat.{ℕ, _+_, _-_, _*_}
 use native.Mathlib.Omega.{arith}
-use lib.ListN.{length, getD, take, drop, set, length-set}
-use lib.Seq.{take-all, take-suc-set}
+use lib.ListN.{getD, take, drop}
 use Rattle.card.specs.Words.{listed}
-use Rattle.card.proofs.Words.{listed-more, getD-listed, listed-same}
+use Rattle.card.proofs.Words.{getD-listed, listed-same}
 use Rattle.board.specs.Record.{columnAt}
 use Rattle.signature.specs.Fnv.{fnv}
 use Rattle.signature.specs.Signed.{columnHashes}
@@ -17,35 +15,6 @@ pub column-part : (counts tableau : List ℕ) (i : ℕ) {w : ℕ} → w ≡ getD
 unfolding columnAt
 column-part counts tableau i {w} e =
     ap (λ (n : ℕ). take n (drop (i * 52) tableau)) (let q : (i * 52 + w) - i * 52 ≡ getD counts i 0 = omega arith in q)
-
--- ---- an array whose first places are filled
-
-pub record Filled (f : ℕ → ℕ) (n : ℕ) (s : List ℕ) (i : ℕ) : Type 0 where
-  pub within : i ≤ n
-  pub long : length s ≡ n
-  pub upto : take i s ≡ listed i f
-
-module _ (f : ℕ → ℕ) {n : ℕ} where
-  pub filled-none : {s : List ℕ} → length s ≡ n → Filled f n s 0
-  unfolding listed
-  filled-none l = record { within = omega arith; long = l; upto = refl }
-
-  pub filled-more : {s : List ℕ} {i v : ℕ} → Filled f n s i → i < n → v ≡ f i → Filled f n (set s i v) (i + 1)
-  filled-more {s} {i} {v} a h e =
-      let l = a .long in
-      let in-s : i < length s = omega arith in
-      record {
-        within = omega arith;
-        long = length-set s i v ∙ l;
-        upto = ap (λ (k : ℕ). take k (set s i v)) (add-one i) ∙ take-suc-set s i v in-s
-            ∙ (let u = a .upto in let m = listed-more f i in cc);
-      }
-
-  pub filled-end : {s : List ℕ} {i : ℕ} → Filled f n s i → n ≤ i → s ≡ listed n f
-  filled-end {s} {i} a h =
-      let l = a .long in
-      let w = a .within in
-      sym (take-all i s (omega arith)) ∙ a .upto ∙ ap (λ (k : ℕ). listed k f) (let q : i ≡ n = omega arith in q)
 
 -- the hashes are those of the columns
 pub hashes-are : (f : ℕ → List ℕ) → listed 8 (λ i. fnv (f i)) ≡ columnHashes (listed 8 f)

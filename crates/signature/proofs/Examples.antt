@@ -1,9 +1,12 @@
--- Values that the authors of FNV publish, and the hash of the whole pack: the definition is evaluated.
+-- Values that the authors of FNV publish, the hash of the whole pack, and one signature: the definitions are evaluated.
 use mathlib.Core.Path.{_≡_, refl}
 use mathlib.Core.List.{[], _∷_}
-use Rattle.card.specs.Words.{listed}
 use Rattle.card.specs.Pack.{cardAt}
+use Rattle.card.specs.Words.{listed, concat}
+use Rattle.board.specs.Table.{pile}
 use Rattle.signature.specs.Fnv.{xorDigits, fnvStep, fnvFrom, fnv}
+use Rattle.signature.specs.Rising.{placed, rising}
+use Rattle.signature.specs.Signed.{homeWords, columnHashes, wordsOf, signed, signatureOf}
 
 -- no octet: cbf29ce484222325
 pub fnv-none : fnv [] ≡ 14695981039346656037
@@ -24,3 +27,8 @@ fnv-foobar = refl
 pub fnv-pack : fnv (listed 52 cardAt) ≡ 5620842660976552641
 unfolding fnv fnvFrom fnvStep xorDigits listed cardAt
 fnv-pack = refl
+
+-- a signature: all home but the king of spades, which lies in column 0
+pub signature-last : signatureOf (record { cells = 255 ∷ 255 ∷ 255 ∷ 255 ∷ []; foundation = 13 ∷ 13 ∷ 13 ∷ 12 ∷ []; columns = (211 ∷ []) ∷ [] ∷ [] ∷ [] ∷ [] ∷ [] ∷ [] ∷ [] ∷ [] }) ≡ 11806600044121602284
+unfolding signatureOf signed wordsOf columnHashes homeWords pile concat listed rising placed fnv fnvFrom fnvStep xorDigits
+signature-last = refl

@@ -9,6 +9,7 @@ pub mod Counted
 pub mod Placing
 pub mod Sorting
 pub mod Fours
+pub mod Filling
 pub mod Columns
 pub mod Homes
 pub mod Joined

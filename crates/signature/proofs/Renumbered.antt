@@ -7,7 +7,7 @@ use lib.Dec.{eqb}
 use borrow.Author.Tests.{eq-eqb, ne-eqb}
 use lib.ListN.{length, getD}
 use Rattle.card.specs.Words.{listed, sum}
-use Rattle.card.proofs.Words.{getD-listed, listed-same, occurs-listed}
+use Rattle.card.proofs.Words.{occurs-listed}
 use Rattle.card.proofs.Sums.{sum-same, sum-one, sum-swap}
 use Rattle.board.specs.Table.{Table}
 use Rattle.signature.specs.Fnv.{fnv}
@@ -15,6 +15,7 @@ use Rattle.signature.specs.Rising.{rising}
 use Rattle.signature.specs.Signed.{columnHashes, wordsOf, signed, signatureOf, Renumbers, renumbered}
 use Rattle.signature.proofs.Counted.{same-rising}
 use Rattle.signature.proofs.Hashing.{listed-all}
+use Rattle.signature.proofs.Columns.{hashes-are}
 
 module _ {n : ℕ} {p q : ℕ → ℕ} (r : Renumbers n p q) where
   -- term j where place i goes, else nothing
@@ -53,17 +54,10 @@ pub signed-alike : (foundation cells cells′ hashes hashes′ : List ℕ) → r
 unfolding signed wordsOf
 signed-alike foundation cells cells′ hashes hashes′ e f = cc
 
-pub hashes-renumbered : (columns : List (List ℕ)) (q : ℕ → ℕ)
-    → columnHashes (listed 8 (λ i. getD columns (q i) [])) ≡ listed 8 (λ i. fnv (getD columns (q i) []))
-unfolding columnHashes
-hashes-renumbered columns q =
-    listed-same (λ i. fnv (getD (listed 8 (λ j. getD columns (q j) [])) i [])) (λ i. fnv (getD columns (q i) [])) 8
-    (λ i h. ap fnv (getD-listed (λ j. getD columns (q j) []) 8 i [] h))
-
 pub signature-renumbered : (t : Table) {p p′ q q′ : ℕ → ℕ} → length (t .cells) ≡ 4 → Renumbers 4 p p′ → Renumbers 8 q q′
     → signatureOf (renumbered p q t) ≡ signatureOf t
 unfolding signatureOf renumbered columnHashes
 signature-renumbered t {p} {p′} {q} {q′} four c d =
     signed-alike (t .foundation) _ _ _ _
     (rising-renumbered c (λ i. getD (t .cells) i 0) ∙ ap rising (four-listed (t .cells) four))
-    (ap rising (hashes-renumbered (t .columns) q) ∙ rising-renumbered d (λ i. fnv (getD (t .columns) i [])))
+    (ap rising (sym (hashes-are (λ i. getD (t .columns) (q i) []))) ∙ rising-renumbered d (λ i. fnv (getD (t .columns) i [])))

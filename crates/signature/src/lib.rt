@@ -137,8 +137,8 @@ pub fn sign<'a>(foundation: &'a [u8; 4], cells: &'a [u8; 4], hashes: &'a [u64; 8
     ensures { λ r. ⌜ r ≡ signed (now (foundation .entry)) (now (cells .entry)) (now (hashes .entry)) ⌝ }
 {
     let mut held = four_words(cells);
-    order::sort(&mut held);
     let mut lie = *hashes;
+    order::sort(&mut held);
     order::sort(&mut lie);
     let homes = take_homes(foundation);
     let with_cells = take_words(step(homes, 253), &held);

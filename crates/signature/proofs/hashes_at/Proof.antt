@@ -3,7 +3,8 @@ use mathlib.Core.Path.{refl, _∙_}
 use Prim.Native.Nat.{_-_}
 use Rattle.board.specs.Record.{columnAt}
 use Rattle.signature.specs.Fnv.{fnv}
-use Rattle.signature.proofs.Columns.{Filled, filled-none, filled-more, filled-end, hashes-are}
+use Rattle.signature.proofs.Filling.{Filled, filled-none, filled-more, filled-end}
+use Rattle.signature.proofs.Columns.{hashes-are}
 use borrow.Author.Needs.{needs}
 use Rattle.signature.proofs.hashes_at.Statement.{statement}
 use Rattle.signature.proofs.hashes_at.Tie as tie

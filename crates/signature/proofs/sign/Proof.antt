@@ -47,7 +47,7 @@ returns c =
     signed-by (c .before .before .before .before .before .before .before .before .before .before .before .before .before .before .before .args .foundation .now) (c .before .before .before .before .before .before .before .before .before .before .before .before .before .before .before .args .cells .now) (c .before .before .before .before .before .before .before .before .before .before .before .before .before .before .before .args .hashes .now)
     (c .before .before .before .before .before .before .take-homes .ensures)
     (c .before .before .before .before .before .step .ensures)
-    (c .before .before .before .before .before .before .before .before .before .before .before .before .sort .ensures ∙ ap rising (c .before .before .before .before .before .before .before .before .before .before .before .before .before .before .four-words .ensures))
+    (c .before .before .before .before .before .before .before .before .before .before .before .sort .ensures ∙ ap rising (c .before .before .before .before .before .before .before .before .before .before .before .before .before .before .four-words .ensures))
     (c .before .before .before .take-words .ensures)
     (c .before .before .step2 .ensures)
     (c .before .before .before .before .before .before .before .before .sort2 .ensures)
