@@ -1,0 +1,6 @@
+-- Laws.
+pub mod Later
+pub mod Kept
+pub mod Lines
+pub mod Masters
+pub mod Pops

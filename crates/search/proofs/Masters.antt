@@ -1,0 +1,210 @@
+-- T2 and T3: two masters never disagree, and larger settings keep what was won or exhausted and never lower the best progress.
+use mathlib.Core.Path.{_≡_, refl, sym, ap, _∙_, subst}
+use mathlib.Core.Bool.{Bool, true, false, cond, not, _&&_}
+use mathlib.Core.List.{List, _∷_}
+use mathlib.Core.Logic.{_⊎_, inl, inr}
+use Prim.Native.Nat.{ℕ, _+_, _-_, _≤_}
+use native.Mathlib.Omega.{arith}
+use borrow.Author.Tests.{ltb-true}
+use lib.Dec.{eqb, ltb}
+use Rattle.search.specs.Game.{Game, Child, Laws, among}
+use Rattle.search.specs.Solve.{some, Node, State, End, won, limit, exhausted, stuck}
+use Rattle.search.specs.Solve.{better, start, childOf, dropped, bearing, taken, run, progressed, answer, solveAs, solve}
+use Rattle.search.proofs.Later.{Fixed, stays, goes-on}
+use Rattle.search.proofs.Kept.{EndKept, kept}
+use Rattle.search.proofs.Lines.{Fine, BestFine, best-fine}
+
+module _ (G : Game) where
+  -- ---- two runs that are won or exhausted are one
+
+  pub one-end : (a c x y : ℕ) (s : State G) → Fixed G (run G a c s) → Fixed G (run G x y s) → run G a c s ≡ run G x y s
+  one-end a c x y s f g =
+      let h : c ≤ c + y = omega arith in
+      let k : y ≤ c + y = omega arith in
+      sym (stays G h a (a + x) (omega arith) s f) ∙ stays G k x (a + x) (omega arith) s g
+
+  -- ---- what the numbers say of an end
+
+  abbrev isFixed : ℕ → Type 0
+  isFixed n = (n ≡ 0) ⊎ ((n ≡ 2) ⊎ (n ≡ 4))
+
+  not-one : isFixed 1 → ⊥
+  not-one (inl e) = omega arith
+  not-one (inr (inl e)) = omega arith
+  not-one (inr (inr e)) = omega arith
+
+  not-three : isFixed 3 → ⊥
+  not-three (inl e) = omega arith
+  not-three (inr (inl e)) = omega arith
+  not-three (inr (inr e)) = omega arith
+
+  not-stuck : isFixed 23 → ⊥
+  not-stuck (inl e) = omega arith
+  not-stuck (inr (inl e)) = omega arith
+  not-stuck (inr (inr e)) = omega arith
+
+  limit-number : (t : Bool) (s : State G) → isFixed (progressed G t 1 3 s .number) → ⊥
+  limit-number true s e = not-one e
+  limit-number false s e = not-three e
+
+  fixed-end : (partial : Bool) (e : End G) → isFixed (answer G partial e .number) → Fixed G e
+  fixed-end partial (won l p) f = tt
+  fixed-end partial (limit s) f = limit-number (partial && not (eqb (s .best .number) 0)) s f
+  fixed-end partial (exhausted s) f = tt
+  fixed-end partial (stuck p) f = not-stuck f
+
+  exhausted-number : {A : Type 0} (t : Bool) (s : State G) → progressed G t 2 4 s .number ≡ 0 → A
+  exhausted-number true s e = absurd (let w : ⊥ = omega arith in w)
+  exhausted-number false s e = absurd (let w : ⊥ = omega arith in w)
+
+  -- a won end has its list whatever the flag
+  won-list : (p q : Bool) (e : End G) → answer G p e .number ≡ 0 → answer G p e .list ≡ answer G q e .list
+  won-list p q (won l n) e = refl
+  won-list p q (limit s) e = absurd (limit-number (p && not (eqb (s .best .number) 0)) s (inl e))
+  won-list p q (exhausted s) e = exhausted-number (p && not (eqb (s .best .number) 0)) s e
+  won-list p q (stuck n) e = absurd (let w : ⊥ = omega arith in w)
+
+  won-or-exhausted : (p q : Bool) (e : End G) → answer G p e .number ≡ 0 → (answer G q e .number ≡ 2) ⊎ (answer G q e .number ≡ 4) → ⊥
+  won-or-exhausted p q (won l n) e (inl f) = omega arith
+  won-or-exhausted p q (won l n) e (inr f) = omega arith
+  won-or-exhausted p q (limit s) e f = limit-number (p && not (eqb (s .best .number) 0)) s (inl e)
+  won-or-exhausted p q (exhausted s) e f = exhausted-number (p && not (eqb (s .best .number) 0)) s e
+  won-or-exhausted p q (stuck n) e f = omega arith
+
+  module _ (b : G .Board) where
+    same-won : (a c x y : ℕ) (p q w : Bool) → solveAs G w b a c p .number ≡ 0 → solveAs G w b x y q .number ≡ 0
+        → solveAs G w b a c p .list ≡ solveAs G w b x y q .list
+    same-won a c x y p q true e f = refl
+    same-won a c x y p q false e f =
+        let same = one-end a c x y (start G b) (fixed-end p (run G a c (start G b)) (inl e)) (fixed-end q (run G x y (start G b)) (inl f)) in
+        won-list p q (run G a c (start G b)) e ∙ ap (λ (r : End G). answer G q r .list) same
+
+    -- T2: no two winning lists
+    pub one-winning-list : (a c x y : ℕ) (p q : Bool) → solve G b a c p .number ≡ 0 → solve G b x y q .number ≡ 0
+        → solve G b a c p .list ≡ solve G b x y q .list
+    unfolding solve
+    one-winning-list a c x y p q e f = same-won a c x y p q (G .won b) e f
+
+    apart : (a c x y : ℕ) (p q w : Bool) → solveAs G w b a c p .number ≡ 0
+        → (solveAs G w b x y q .number ≡ 2) ⊎ (solveAs G w b x y q .number ≡ 4) → ⊥
+    apart a c x y p q true e (inl f) = omega arith
+    apart a c x y p q true e (inr f) = omega arith
+    apart a c x y p q false e f =
+        let same = one-end a c x y (start G b) (fixed-end p (run G a c (start G b)) (inl e)) (fixed-end q (run G x y (start G b)) (inr f)) in
+        won-or-exhausted p q (run G x y (start G b)) (sym (ap (λ (r : End G). answer G p r .number) same) ∙ e) f
+
+    -- T2: not won in one and exhausted in the other
+    pub not-won-and-exhausted : (a c x y : ℕ) (p q : Bool) → solve G b a c p .number ≡ 0
+        → (solve G b x y q .number ≡ 2) ⊎ (solve G b x y q .number ≡ 4) → ⊥
+    unfolding solve
+    not-won-and-exhausted a c x y p q e f = apart a c x y p q (G .won b) e f
+
+    larger : (a c x y : ℕ) (p w : Bool) → a ≤ x → c ≤ y → isFixed (solveAs G w b a c p .number) → solveAs G w b x y p ≡ solveAs G w b a c p
+    larger a c x y p true h k f = refl
+    larger a c x y p false h k f = ap (answer G p) (stays G k a x h (start G b) (fixed-end p (run G a c (start G b)) f))
+
+    -- T3: won and exhausted stay, with list and count, under larger settings
+    pub larger-settings : (a c x y : ℕ) (p : Bool) → a ≤ x → c ≤ y → isFixed (solve G b a c p .number) → solve G b x y p ≡ solve G b a c p
+    unfolding solve
+    larger-settings a c x y p h k f = larger a c x y p (G .won b) h k f
+
+  -- ---- best progress
+
+  module _ (k : ℕ) where
+    abbrev AtLeast : State G → Type 0
+    AtLeast s = k ≤ G .progress (s .best .board)
+
+    rise : (t : Bool) (m best : Node G) → ltb (G .progress (best .board)) (G .progress (m .board)) ≡ t
+        → k ≤ G .progress (best .board) → k ≤ G .progress (cond t m best .board)
+    rise true m best e h = let l = ltb-true (G .progress (best .board)) (G .progress (m .board)) e in omega arith
+    rise false m best e h = h
+
+    taking : (s : State G) (n : Node G) (l : List (Node G)) → s .waiting ≡ n ∷ l → AtLeast s → AtLeast (taken G l s) × Unit {0}
+    unfolding taken
+    taking s n l e h = (h, tt)
+
+    child-more : (n : Node G) (c : Child (G .Board) (G .Move)) (s : State G) → Unit {0} → among c (G .children (n .board))
+        → dropped G (childOf G n c s) s ≡ false → AtLeast s → AtLeast (bearing G (childOf G n c s) s)
+    unfolding bearing better
+    child-more n c s f i e h = rise (ltb (G .progress (s .best .board)) (G .progress (childOf G n c s .board))) (childOf G n c s) (s .best) refl h
+
+    abbrev GrewTo : End G → Type 0
+    GrewTo (won l p) = Unit {0}
+    GrewTo (limit s) = AtLeast s
+    GrewTo (exhausted s) = AtLeast s
+    GrewTo (stuck p) = Unit {0}
+
+    grew : (e : End G) → EndKept G AtLeast (λ n. Unit {0}) taking child-more e → GrewTo e
+    grew (won l p) q = tt
+    grew (limit s) q = q
+    grew (exhausted s) q = q
+    grew (stuck p) q = tt
+
+    grows : (a c : ℕ) (s : State G) → AtLeast s → GrewTo (run G a c s)
+    grows a c s h = grew (run G a c s) (kept G AtLeast (λ n. Unit {0}) taking child-more a c s h)
+
+  -- a search at its limit, and a larger one of the same board that has a best board too
+  module _ {a c x y : ℕ} (h : a ≤ x) (k : c ≤ y) (s u : State G) (small : run G a c s ≡ limit u) where
+    reached : GrewTo (G .progress (u .best .board)) (run G x y s)
+    reached = subst (GrewTo (G .progress (u .best .board))) (sym (goes-on G k a x h s u small)) (grows (G .progress (u .best .board)) (x - a) y u (omega arith))
+
+    pub limit-grows : (v : State G) → run G x y s ≡ limit v → G .progress (u .best .board) ≤ G .progress (v .best .board)
+    limit-grows v e = subst (GrewTo (G .progress (u .best .board))) e reached
+
+    pub exhausted-grows : (v : State G) → run G x y s ≡ exhausted v → G .progress (u .best .board) ≤ G .progress (v .best .board)
+    exhausted-grows v e = subst (GrewTo (G .progress (u .best .board))) e reached
+
+-- ---- best progress, as it is answered
+
+module _ (G : Game) (L : Laws G) (b : G .Board) (good : L .Good b) where
+  -- the board that a best-progress list leads to
+  best-board : (s : State G) (t : Bool) (x y : ℕ) (l : List (G .Move)) (c : G .Board) → Fine G L b (s .best)
+      → progressed G t x y s .list ≡ some l → L .Leads b l c → G .progress c ≡ G .progress (s .best .board)
+  best-board s true x y l c f e h =
+      let same : s .best .line ≡ l = cc in
+      ap (G .progress) (L .one-end h (subst (λ (m : List (G .Move)). L .Leads b m (s .best .board)) same (f .leads)))
+  best-board s false x y l c f e h = let z : _≡_ {A = ℕ} 0 1 = cc in absurd (let w : ⊥ = omega arith in w)
+
+  module _ {a c x y : ℕ} (h : a ≤ x) (k : c ≤ y) (p : Bool) (l m : List (G .Move)) (d e : G .Board) (leads : L .Leads b l d) (leads′ : L .Leads b m e) where
+    abbrev whether : State G → Bool
+    whether s = p && not (eqb (s .best .number) 0)
+
+    last : (u : State G) → run G a c (start G b) ≡ limit u → answer G p (limit u) .list ≡ some l → (r : End G) → run G x y (start G b) ≡ r
+        → (answer G p r .number ≡ 1) ⊎ (answer G p r .number ≡ 2) → answer G p r .list ≡ some m → G .progress d ≤ G .progress e
+    last u small q (won n i) large (inl j) t = absurd (let w : ⊥ = omega arith in w)
+    last u small q (won n i) large (inr j) t = absurd (let w : ⊥ = omega arith in w)
+    last u small q (limit v) large j t =
+        let g = limit-grows G h k (start G b) u small v large in
+        let f = best-board u (whether u) 1 3 l d (subst (BestFine G L b) small (best-fine G L b good a c)) q leads in
+        let f′ = best-board v (whether v) 1 3 m e (subst (BestFine G L b) large (best-fine G L b good x y)) t leads′ in
+        omega arith
+    last u small q (exhausted v) large j t =
+        let g = exhausted-grows G h k (start G b) u small v large in
+        let f = best-board u (whether u) 1 3 l d (subst (BestFine G L b) small (best-fine G L b good a c)) q leads in
+        let f′ = best-board v (whether v) 2 4 m e (subst (BestFine G L b) large (best-fine G L b good x y)) t leads′ in
+        omega arith
+    last u small q (stuck n) large (inl j) t = absurd (let w : ⊥ = omega arith in w)
+    last u small q (stuck n) large (inr j) t = absurd (let w : ⊥ = omega arith in w)
+
+    first : (r : End G) → run G a c (start G b) ≡ r → answer G p r .number ≡ 1 → answer G p r .list ≡ some l
+        → (answer G p (run G x y (start G b)) .number ≡ 1) ⊎ (answer G p (run G x y (start G b)) .number ≡ 2)
+        → answer G p (run G x y (start G b)) .list ≡ some m → G .progress d ≤ G .progress e
+    first (won n i) small j q large t = absurd (let w : ⊥ = omega arith in w)
+    first (limit u) small j q large t = last u small q (run G x y (start G b)) refl large t
+    first (exhausted u) small j q large t = two-or-four (whether u) u j
+      where
+        two-or-four : (v : Bool) (u : State G) → progressed G v 2 4 u .number ≡ 1 → G .progress d ≤ G .progress e
+        two-or-four true u j = absurd (let w : ⊥ = omega arith in w)
+        two-or-four false u j = absurd (let w : ⊥ = omega arith in w)
+    first (stuck n) small j q large t = absurd (let w : ⊥ = omega arith in w)
+
+    by-start : (w : Bool) → solveAs G w b a c p .number ≡ 1 → solveAs G w b a c p .list ≡ some l
+        → (solveAs G w b x y p .number ≡ 1) ⊎ (solveAs G w b x y p .number ≡ 2) → solveAs G w b x y p .list ≡ some m → G .progress d ≤ G .progress e
+    by-start true j q large t = absurd (let w : ⊥ = omega arith in w)
+    by-start false j q large t = first (run G a c (start G b)) refl j q large t
+
+    -- T3: where both bring a best-progress list, the score of the last board is no lower under the larger settings
+    pub progress-grows : solve G b a c p .number ≡ 1 → solve G b a c p .list ≡ some l
+        → (solve G b x y p .number ≡ 1) ⊎ (solve G b x y p .number ≡ 2) → solve G b x y p .list ≡ some m → G .progress d ≤ G .progress e
+    unfolding solve
+    progress-grows j q large t = by-start (G .won b) j q large t

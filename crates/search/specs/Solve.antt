@@ -1,0 +1,205 @@
+-- The search, as document 01 tells it.
+use mathlib.Core.Bool.{Bool, true, false, cond, not, _&&_, _||_}
+use mathlib.Core.List.{List, [], _∷_, _++_}
+use Prim.Native.Nat.{ℕ, zero, suc, _+_}
+use lib.Dec.{eqb, leb, ltb}
+use lib.ListN.{length}
+use Rattle.search.specs.Game.{Game, Child}
+
+-- the most moves of a line
+abbrev pub MAX_DEPTH : ℕ
+MAX_DEPTH = 200
+
+-- something, or nothing
+pub data Perhaps (A : Type 0) : Type 0 where
+  none : Perhaps A
+  some : A → Perhaps A
+
+-- the best cost known differs
+abbrev pub differs : Perhaps ℕ → ℕ → Bool
+differs none n = false
+differs (some k) n = not (eqb k n)
+
+-- the best cost known is not above this one
+abbrev pub asGood : Perhaps ℕ → ℕ → Bool
+asGood none n = false
+asGood (some k) n = leb k n
+
+module _ (G : Game) where
+  -- a node: its number by birth, the whole line that leads to it, its board
+  pub record Node : Type 0 where
+    pub number : ℕ
+    pub line : List (G .Move)
+    pub board : G .Board
+
+  -- cost and depth both grow by the moves made
+  abbrev pub cost : Node → ℕ
+  cost n = length (n .line)
+
+  abbrev pub hope : Node → ℕ
+  hope n = G .heuristic (n .board)
+
+  -- ---- the nodes that wait
+
+  -- a is taken before b: the least by cost + heuristic, then by heuristic, then by number
+  unfoldable pub before : Node → Node → Bool
+  before a b =
+      ltb (cost a + hope a) (cost b + hope b)
+      || (eqb (cost a + hope a) (cost b + hope b) && (ltb (hope a) (hope b) || (eqb (hope a) (hope b) && ltb (a .number) (b .number))))
+
+  -- a node at its place among those that wait
+  unfoldable pub queued : Node → List Node → List Node
+  queued n [] = n ∷ []
+  queued n (m ∷ l) = cond (before n m) (n ∷ m ∷ l) (m ∷ queued n l)
+
+  -- ---- the best cost known for a signature
+
+  pub record Known : Type 0 where
+    pub key : G .Key
+    pub cost : ℕ
+
+  unfoldable pub costOf : G .Key → List Known → Perhaps ℕ
+  costOf k [] = none
+  costOf k (e ∷ l) = cond (G .same k (e .key)) (some (e .cost)) (costOf k l)
+
+  -- ---- the state of a search
+
+  pub record State : Type 0 where
+    pub born : ℕ
+    pub waiting : List Node
+    pub known : List Known
+    pub best : Node
+    pub pops : ℕ
+
+  unfoldable pub start : G .Board → State
+  start b =
+      let root : Node = record { number = 0; line = []; board = b } in
+      record { born = 1; waiting = root ∷ []; known = (record { key = G .signature b; cost = 0 }) ∷ []; best = root; pops = 0 }
+
+  -- ---- a child
+
+  unfoldable pub childOf : Node → Child (G .Board) (G .Move) → State → Node
+  childOf n k s = record { number = s .born; line = n .line ++ k .moves; board = k .board }
+
+  -- dropped: over the depth, or with a known cost not above its own
+  unfoldable pub dropped : Node → State → Bool
+  dropped m s = ltb MAX_DEPTH (cost m) || asGood (costOf (G .signature (m .board)) (s .known)) (cost m)
+
+  -- the best progress moves only to a strictly higher score
+  unfoldable pub better : Node → Node → Node
+  better m best = cond (ltb (G .progress (best .board)) (G .progress (m .board))) m best
+
+  unfoldable pub bearing : Node → State → State
+  bearing m s =
+      record {
+        born = suc (s .born);
+        waiting = queued m (s .waiting);
+        known = (record { key = G .signature (m .board); cost = cost m }) ∷ s .known;
+        best = better m (s .best);
+        pops = s .pops;
+      }
+
+  -- no room: the nodes already fill the capacity
+  unfoldable pub noRoom : ℕ → State → Bool
+  noRoom capacity s = leb capacity (s .born)
+
+  pub data Grown : Type 0 where
+    full : Grown
+    grown : State → Grown
+
+  -- dropped or not, room or none
+  abbrev pub bornAs : Bool → Bool → Node → State → Grown
+  bornAs true x m s = grown s
+  bornAs false true m s = full
+  bornAs false false m s = grown (bearing m s)
+
+  unfoldable pub bear : ℕ → Node → Child (G .Board) (G .Move) → State → Grown
+  bear capacity n k s = bornAs (dropped (childOf n k s) s) (noRoom capacity s) (childOf n k s) s
+
+  abbrev pub thenGrow : Grown → (State → Grown) → Grown
+  thenGrow full f = full
+  thenGrow (grown s) f = f s
+
+  -- the children in order
+  unfoldable pub expand : ℕ → Node → List (Child (G .Board) (G .Move)) → State → Grown
+  expand capacity n [] s = grown s
+  expand capacity n (k ∷ ks) s = thenGrow (bear capacity n k s) (expand capacity n ks)
+
+  -- ---- a node that is taken
+
+  -- how a search ends: won with a line; at the limit or exhausted, in a state; without room. With its pops.
+  pub data End : Type 0 where
+    won : List (G .Move) → ℕ → End
+    limit : State → End
+    exhausted : State → End
+    stuck : ℕ → End
+
+  pub data Turn : Type 0 where
+    over : End → Turn
+    again : State → Turn
+
+  abbrev pub grownTurn : ℕ → Grown → Turn
+  grownTurn pops full = over (stuck pops)
+  grownTurn pops (grown s) = again s
+
+  -- skipped if the best cost for its signature differs; the answer if it is won; skipped at the depth limit; else expanded
+  abbrev pub visitAs : Bool → Bool → Bool → ℕ → Node → State → Turn
+  visitAs true w d capacity n s = again s
+  visitAs false true d capacity n s = over (won (n .line) (s .pops))
+  visitAs false false true capacity n s = again s
+  visitAs false false false capacity n s = grownTurn (s .pops) (expand capacity n (G .children (n .board)) s)
+
+  unfoldable pub visit : ℕ → Node → State → Turn
+  visit capacity n s =
+      visitAs (differs (costOf (G .signature (n .board)) (s .known)) (cost n)) (G .won (n .board)) (leb MAX_DEPTH (cost n)) capacity n s
+
+  -- a node is taken: the others wait on, and one pop more is counted
+  unfoldable pub taken : List Node → State → State
+  taken rest s = record { born = s .born; waiting = rest; known = s .known; best = s .best; pops = suc (s .pops) }
+
+  -- ---- the run
+
+  abbrev pub onward : Turn → (State → End) → End
+  onward (over e) f = e
+  onward (again s) f = f s
+
+  -- nothing waits: exhausted; else the limit
+  abbrev pub stopped : List Node → State → End
+  stopped [] s = exhausted s
+  stopped (n ∷ l) s = limit s
+
+  -- nothing waits: exhausted; else the first is taken
+  abbrev pub goOn : ℕ → List Node → State → (State → End) → End
+  goOn capacity [] s f = exhausted s
+  goOn capacity (n ∷ l) s f = onward (visit capacity n (taken l s)) f
+
+  unfoldable pub run : ℕ → ℕ → State → End
+  run zero capacity s = stopped (s .waiting) s
+  run (suc budget) capacity s = goOn capacity (s .waiting) s (run budget capacity)
+
+  -- ---- the answer
+
+  -- document 01's number, the list if there is one, the pops
+  pub record Answer : Type 0 where
+    pub number : ℕ
+    pub list : Perhaps (List (G .Move))
+    pub pops : ℕ
+
+  -- the best progress, if it is allowed and there is any
+  abbrev pub progressed : Bool → ℕ → ℕ → State → Answer
+  progressed true with without s = record { number = with; list = some (s .best .line); pops = s .pops }
+  progressed false with without s = record { number = without; list = none; pops = s .pops }
+
+  abbrev pub answer : Bool → End → Answer
+  answer partial (won l p) = record { number = 0; list = some l; pops = p }
+  answer partial (limit s) = progressed (partial && not (eqb (s .best .number) 0)) 1 3 s
+  answer partial (exhausted s) = progressed (partial && not (eqb (s .best .number) 0)) 2 4 s
+  answer partial (stuck p) = record { number = 23; list = none; pops = p }
+
+  -- a won start is won at once
+  abbrev pub solveAs : Bool → G .Board → ℕ → ℕ → Bool → Answer
+  solveAs true b budget capacity partial = record { number = 0; list = some []; pops = 0 }
+  solveAs false b budget capacity partial = answer partial (run budget capacity (start b))
+
+  unfoldable pub solve : G .Board → ℕ → ℕ → Bool → Answer
+  solve b budget capacity partial = solveAs (G .won b) b budget capacity partial
