@@ -169,7 +169,7 @@ fn takes_at<'a>(
 }
 
 // One record more.
-fn write(out: &mut [u8], n: usize, m: Move) -> usize
+pub fn write(out: &mut [u8], n: usize, m: Move) -> usize
     requires { ⌜ sayable m ≡ true ⌝ }
     requires { ⌜ (n + 1) * 5 ≤ length (now out) ⌝ }
     ensures { λ r. ⌜ Adds (now (out .entry)) (now (out .exit)) n r (m ∷ []) ⌝ }
