@@ -1,0 +1,11 @@
+-- Laws for the crates above.
+pub mod Homing
+pub mod Nexts
+pub mod Blocking
+pub mod Extremes
+pub mod Bounds
+pub mod Keys
+pub mod Signs
+pub mod Digits
+pub mod Putting
+pub mod Answering

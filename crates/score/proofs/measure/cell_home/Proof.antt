@@ -1,0 +1,27 @@
+-- What `cell_home` leaves to be shown: the cell's card, if it has one.
+use mathlib.Core.Path.{_∙_}
+use lib.ListN.{getD}
+use native.Mathlib.Omega.{arith}
+use Rattle.board.proofs.Tables.{cell-is-card}
+use Rattle.score.proofs.Homing.{cell-none, cell-last, one-home, no-home}
+use Rattle.score.proofs.measure.cell_home.Statement.{statement}
+use Rattle.score.proofs.measure.cell_home.Tie as tie
+
+element-copy-out-code : tie.Need-element-copy-out-code
+element-copy-out-code c = omega (arith, c .pre .1 .0 .four)
+
+returns : tie.Need-returns
+returns c = cell-none (c .before .before .args .foundation .now) (getD (c .before .before .args .cells .now) (c .before .before .args .i) 0) (c .if1 .taken)
+
+home-takes-requires : tie.Need-home-takes-requires
+home-takes-requires c κs = (c .before .before .pre .0, cell-is-card (getD (c .before .before .args .cells .now) (c .before .before .args .i) 0) (c .before .before .pre .1 .0 .codes (c .before .before .args .i) (c .before .before .pre .1 .1)) (c .if1 .left))
+
+returns-2 : tie.Need-returns-2
+returns-2 c = one-home (c .before .home-takes .ensures ∙ cell-last (c .before .before .before .before .args .foundation .now) (getD (c .before .before .before .before .args .cells .now) (c .before .before .before .before .args .i) 0) (c .before .before .if1 .left)) (c .if2 .taken)
+
+returns-3 : tie.Need-returns-3
+returns-3 c = no-home (c .before .home-takes .ensures ∙ cell-last (c .before .before .before .before .args .foundation .now) (getD (c .before .before .before .before .args .cells .now) (c .before .before .before .before .args .i) 0) (c .before .before .if1 .left)) (c .if2 .left)
+
+pub cell-home-spec : {M : Type 1} → statement M
+cell-home-spec =
+    tie.close (tie.spec element-copy-out-code returns home-takes-requires returns-2 returns-3)

@@ -1,0 +1,53 @@
+-- What `column_home` leaves to be shown: the last card of the column, if it has one.
+use mathlib.Core.Path.{_∙_, ap}
+use Prim.Native.Nat.{_-_}
+use native.Mathlib.Omega.{arith}
+use Rattle.score.proofs.Homing.{column-none, column-last, one-home, no-home}
+use borrow.Author.Needs.{needs}
+use Rattle.score.proofs.measure.column_home.Statement.{statement}
+use Rattle.score.proofs.measure.column_home.Tie as tie
+
+element-copy-out-wide : tie.Need-element-copy-out-wide
+element-copy-out-wide c = omega (arith, c .pre .1 .0 .eight)
+
+wide-requires : tie.Need-wide-requires
+wide-requires c κs = search needs
+
+returns : tie.Need-returns
+returns c = column-none (c .before .before .before .args .foundation .now) (c .before .before .before .pre .1 .0) (c .before .before .before .args .i) (c .before .wide .result) (c .before .before .before .pre .1 .1) (c .before .wide .ensures) (c .if1 .taken)
+
+mul-first : tie.Need-mul-first
+mul-first c = search needs
+
+sub-last : tie.Need-sub-last
+sub-last c = search needs
+
+add-last : tie.Need-add-last
+add-last c = omega (arith, c .before .wide .ensures, c .before .before .before .pre .1 .0 .within (c .before .before .before .args .i) (c .before .before .before .pre .1 .1))
+
+element-copy-out-home-takes : tie.Need-element-copy-out-home-takes
+element-copy-out-home-takes c = omega (arith, c .before .wide .ensures, c .before .before .before .pre .1 .0 .within (c .before .before .before .args .i) (c .before .before .before .pre .1 .1), c .before .before .before .pre .1 .0 .full, c .if1 .left)
+
+home-takes-requires : tie.Need-home-takes-requires
+home-takes-requires c κs = (c .before .before .before .before .pre .0, c .before .before .before .before .pre .1 .0 .codes (c .before .before .before .before .args .i) (c .before .before .wide .result - 1) (c .before .before .before .before .pre .1 .1) (omega (arith, c .before .before .wide .ensures, c .before .if1 .left)))
+
+returns-2 : tie.Need-returns-2
+returns-2 c = one-home (c .before .home-takes .ensures ∙ column-last (c .before .before .before .before .before .before .args .foundation .now) (c .before .before .before .before .before .before .pre .1 .0) (c .before .before .before .before .before .before .args .i) (c .before .before .before .before .wide .result) (c .before .before .before .before .before .before .pre .1 .1) (c .before .before .before .before .wide .ensures) (c .before .before .before .if1 .left)) (c .if2 .taken)
+
+returns-3 : tie.Need-returns-3
+returns-3 c = no-home (c .before .home-takes .ensures ∙ column-last (c .before .before .before .before .before .before .args .foundation .now) (c .before .before .before .before .before .before .pre .1 .0) (c .before .before .before .before .before .before .args .i) (c .before .before .before .before .wide .result) (c .before .before .before .before .before .before .pre .1 .1) (c .before .before .before .before .wide .ensures) (c .before .before .before .if1 .left)) (c .if2 .left)
+
+pub column-home-spec : {M : Type 1} → statement M
+column-home-spec =
+    tie.close
+    (tie.spec
+    element-copy-out-wide
+    wide-requires
+    returns
+    mul-first
+    sub-last
+    add-last
+    element-copy-out-home-takes
+    home-takes-requires
+    returns-2
+    returns-3)

@@ -1,0 +1,21 @@
+-- What `immediate_foundation_count` leaves to be shown: columns and cells together, at most four.
+use native.Mathlib.Omega.{arith}
+use Rattle.score.proofs.Bounds.{immediate-is, immediate-most}
+use Rattle.score.proofs.measure.immediate_foundation_count.Statement.{statement}
+use Rattle.score.proofs.measure.immediate_foundation_count.Tie as tie
+
+columns-home-requires : tie.Need-columns-home-requires
+columns-home-requires c κs = (c .pre .inPiles, c .pre .inColumns)
+
+cells-home-requires : tie.Need-cells-home-requires
+cells-home-requires c κs = (c .before .pre .inPiles, c .before .pre .inCells)
+
+add-result : tie.Need-add-result
+add-result c = omega (arith, immediate-is (record { cells = c .before .before .args .cells .now; foundation = c .before .before .args .foundation .now; counts = c .before .before .args .counts .now; tableau = c .before .before .args .tableau .now }) (c .before .columns-home .ensures) (c .cells-home .ensures), immediate-most (record { cells = c .before .before .args .cells .now; foundation = c .before .before .args .foundation .now; counts = c .before .before .args .counts .now; tableau = c .before .before .args .tableau .now }) (c .before .before .pre))
+
+returns : tie.Need-returns
+returns c = immediate-is (record { cells = c .before .before .args .cells .now; foundation = c .before .before .args .foundation .now; counts = c .before .before .args .counts .now; tableau = c .before .before .args .tableau .now }) (c .before .columns-home .ensures) (c .cells-home .ensures)
+
+pub immediate-foundation-count-spec : {M : Type 1} → statement M
+immediate-foundation-count-spec =
+    tie.close (tie.spec columns-home-requires cells-home-requires add-result returns)

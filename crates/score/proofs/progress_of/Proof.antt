@@ -1,0 +1,42 @@
+-- What `progress_of` leaves to be shown: the features told decide.
+use mathlib.Core.Path.{ap, _∙_}
+use lib.IntN.{ℤ}
+use Rattle.card.specs.Answer.{given}
+use Rattle.score.specs.Scores.{progress}
+use Rattle.score.specs.Asked.{progressAsked}
+use Rattle.score.proofs.Answering.{told-no, told-given, told-small}
+use Rattle.score.proofs.Signs.{passed-on, progress-fits}
+use borrow.Author.Needs.{needs}
+use Rattle.score.proofs.progress_of.Statement.{statement}
+use Rattle.score.proofs.progress_of.Tie as tie
+
+features-of-requires : tie.Need-features-of-requires
+features-of-requires c κs = search needs
+
+enum-known-f : tie.Need-enum-known-f
+enum-known-f c = search needs
+
+progress-score-requires : tie.Need-progress-score-requires
+progress-score-requires c κs = told-small (c .before .before .before .before .args .b) (c .before .before .before .features-of .ensures) (c .before .f .given .1) (record { four = search needs; piles = search needs; eight = search needs; full = search needs })
+
+enum-known-why : tie.Need-enum-known-why
+enum-known-why c = search needs
+
+returns : tie.Need-returns
+unfolding progressAsked
+returns c = ap (λ (z : ℤ). given z) (passed-on (progress-fits (c .before .before .f .given .0 .0) (told-small (c .before .before .before .before .before .args .b) (c .before .before .before .before .features-of .ensures) (c .before .before .f .given .1) (record { four = search needs; piles = search needs; eight = search needs; full = search needs }))) (c .progress-score .ensures)) ∙ told-given (c .before .before .before .before .before .args .b) (c .before .before .before .before .features-of .ensures) (c .before .before .f .given .1) (λ f. given (progress f))
+
+returns-2 : tie.Need-returns-2
+unfolding progressAsked
+returns-2 c = told-no (c .before .before .before .before .args .b) (c .before .before .before .features-of .ensures) _ (c .before .why .given .1)
+
+pub progress-of-spec : {M : Type 1} → statement M
+progress-of-spec =
+    tie.close
+    (tie.spec
+    features-of-requires
+    enum-known-f
+    progress-score-requires
+    enum-known-why
+    returns
+    returns-2)
