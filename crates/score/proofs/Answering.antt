@@ -60,7 +60,7 @@ module _ (b : Board) {r : FeaturesAnswer} (e : featuresTold r ≡ featuresAsked 
     pub told-given : {A : Type 0} (a : Features → Answer A) → a f ≡ after (examined b) (a (featuresOf (shown b)))
     told-given a = ap a (told-yes .1) ∙ sym (ap (λ (v : Verdict). after v (a (featuresOf (shown b)))) (told-yes .0))
 
-    pub told-same : f ≡ featuresOf (shown b)
+    told-same : f ≡ featuresOf (shown b)
     told-same = told-yes .1
 
     pub told-small : Sized b → Bounded f

@@ -2,11 +2,11 @@
 use mathlib.Core.Path.{_≡_, refl, sym, ap, _∙_, subst}
 use mathlib.Core.Bool.{Bool, true, false, cond}
 use mathlib.Core.List.{List, [], _∷_, _++_}
-use Prim.Native.Nat.{ℕ, zero, suc, _+_, _-_, _*_, _/_, _%_, _<_, _≤_}
+use Prim.Native.Nat.{ℕ, zero, suc, _+_, _-_, _*_, _/_, _<_, _≤_}
 use native.Mathlib.Nat.{le-trans, le-of-suc-le-suc}
 use native.Mathlib.Numerals.{add-one, one-add}
 use native.Mathlib.Omega.{arith}
-use borrow.Author.Tests.{leb-true, leb-false, le-leb, lt-leb, eq-eqb}
+use borrow.Author.Tests.{leb-true, le-leb, lt-leb, eq-eqb}
 use lib.Dec.{leb, eqb}
 use lib.ListN.{length, getD, take, drop, length-append, length-drop, drop-of-length-le}
 use lib.Seq.{drop-cons}
@@ -49,7 +49,7 @@ unfolding blockedIn
 blocked-end l k h = ap blockedIn (drop-of-length-le l h)
 
 -- a short list adds little
-pub blocked-little : (l : List ℕ) → length l ≤ 52 → blockedIn l ≤ 52 * length l
+blocked-little : (l : List ℕ) → length l ≤ 52 → blockedIn l ≤ 52 * length l
 unfolding blockedIn
 blocked-little [] h = omega arith
 blocked-little (x ∷ l) h = let i = blocked-little l (omega arith) in let m = by-most (leb (x / 16) 3) (length l) in omega arith
@@ -58,7 +58,7 @@ blocked-little (x ∷ l) h = let i = blocked-little l (omega arith) in let m = b
 
 module _ {counts tableau : List ℕ} (g : GoodColumns counts tableau) (i w : ℕ) (h : i < 8) (e : w ≡ getD counts i 0) where
   -- a column as the part of the tableau that the code lends
-  pub column-is : take (i * 52 + w - i * 52) (drop (i * 52) tableau) ≡ columnAt counts tableau i
+  column-is : take (i * 52 + w - i * 52) (drop (i * 52) tableau) ≡ columnAt counts tableau i
   unfolding columnAt
   column-is = ap (λ (n : ℕ). take n (drop (i * 52) tableau)) (let q : i * 52 + w - i * 52 ≡ getD counts i 0 = omega arith in q)
 

@@ -2,15 +2,15 @@
 use mathlib.Core.Path.{_≡_, refl, sym, ap, _∙_, subst}
 use mathlib.Core.Bool.{Bool, true, false, cond}
 use mathlib.Core.List.{List, [], _∷_, _++_}
-use Prim.Native.Nat.{ℕ, zero, suc, _+_, _-_, _*_, _<_, _≤_}
+use Prim.Native.Nat.{ℕ, _+_, _*_, _<_, _≤_}
 use native.Mathlib.Omega.{arith}
 use lib.Dec.{eqb}
 use lib.ListN.{length, getD, length-append}
 use Rattle.card.specs.Words.{sum, all, occurs, listed, concat}
 use Rattle.card.specs.Card.{isCard}
 use Rattle.card.proofs.Words.{first, second, every-at, all-append, all-concat, getD-listed, occurs-append}
-use Rattle.card.proofs.Sums.{sum-same, sum-ones, sum-add, sum-all}
-use Rattle.board.specs.Table.{Table, piles, held, cardsOn}
+use Rattle.card.proofs.Sums.{sum-same, sum-add, sum-all}
+use Rattle.board.specs.Table.{piles, held, cardsOn}
 use Rattle.board.specs.Judged.{onlyCards, noneTwice, judged}
 use Rattle.board.specs.Record.{columnAt, shown}
 use Rattle.board.specs.Inner.{GoodPiles, Sound}
@@ -20,10 +20,10 @@ use Rattle.board.proofs.Judging.{good-shape}
 use Rattle.board.proofs.Soundness.{passed, sound-fine, sound-shape}
 use Rattle.board.proofs.Counting.{at-most-52}
 use Rattle.board.proofs.Fitting.{cards-on}
-use Rattle.questions.specs.Questions.{homeCount, emptyCells, emptyColumns}
+use Rattle.questions.specs.Questions.{homeCount, emptyCells}
 use Rattle.rules.specs.Run.{runLength}
 use Rattle.rules.proofs.Laying.{run-13, empty-at-most}
-use Rattle.score.specs.Features.{greatest, least, lastGoesHome, immediateOn, blockedIn, blockedOn, imbalanceOf, cellsUsed, longestRun, featuresOf, Bounded}
+use Rattle.score.specs.Features.{lastGoesHome, immediateOn, blockedIn, blockedOn, imbalanceOf, cellsUsed, longestRun, featuresOf, Bounded}
 use Rattle.score.proofs.Extremes.{greatest-most}
 use Rattle.score.proofs.Nexts.{at-most-once, lists-next, four-next}
 use Rattle.score.proofs.Blocking.{blocked-concat, blocked-546}

@@ -1,24 +1,14 @@
 -- The last card of a column or of a cell, where it can go home.
-use mathlib.Core.Path.{_≡_, refl, sym, ap, _∙_, subst}
+use mathlib.Core.Path.{_≡_, refl, sym, ap, _∙_}
 use mathlib.Core.Bool.{Bool, true, false, cond}
-use mathlib.Core.List.{List, [], _∷_, _++_}
-use Prim.Native.Nat.{ℕ, zero, suc, _+_, _-_, _*_, _/_, _%_, _<_, _≤_}
-use native.Mathlib.Nat.{le-trans, le-of-suc-le-suc}
+use mathlib.Core.List.{List, [], _∷_}
+use Prim.Native.Nat.{ℕ, zero, suc, _+_, _-_, _*_, _<_}
 use native.Mathlib.Omega.{arith}
-use native.Mathlib.Decide.{ℕ-discrete}
-use borrow.Author.Tests.{eqb-true}
-use lib.Dec.{eqb}
 use lib.ListN.{length, getD}
-use Rattle.card.specs.Words.{sum, all, occurs, listed, concat}
-use Rattle.card.specs.Card.{isCard}
-use Rattle.card.specs.Pack.{cardAt, placeOf}
-use Rattle.card.proofs.Words.{first, second, true-or-not, not-so, all-at, occurs-here, occurs-other, occurs-none, occurs-append, occurs-concat}
-use Rattle.card.proofs.Sums.{sum-part, sum-same, sum-swap, sum-ones, sum-add}
-use Rattle.card.proofs.Codes.{card-is, at-place, place-below}
 use Rattle.board.specs.Table.{held}
 use Rattle.board.specs.Record.{columnAt}
 use Rattle.board.specs.Inner.{GoodColumns}
-use Rattle.board.proofs.Tables.{cell-empty, cell-card, held-each}
+use Rattle.board.proofs.Tables.{cell-empty, cell-card}
 use Rattle.board.proofs.Soundness.{column-length, column-code}
 use Rattle.rules.specs.Fit.{homeTakes}
 use Rattle.score.specs.Features.{lastGoesHome}

@@ -1,12 +1,11 @@
 -- The keys that the search compares: a key less its bias is the score, and keys compare as scores do.
-use mathlib.Core.Path.{_≡_, refl, sym, ap, ap₂, _∙_}
-use mathlib.Core.Bool.{Bool, true, false, cond}
-use Prim.Native.Nat.{ℕ, suc, _+_, _-_, _*_, _<_, _≤_}
+use mathlib.Core.Path.{_≡_, sym, ap, ap₂, _∙_}
+use Prim.Native.Nat.{ℕ, suc, _+_, _-_, _<_, _≤_}
 use native.Mathlib.Omega.{arith}
 use native.Mathlib.Decide.{decLt}
 use borrow.Author.Tests.{lt-ltb, le-ltb, le-leb, lt-leb, leb-true}
-use lib.Dec.{leb, ltb}
-use lib.IntN.{ℤ, pos, negsuc, subℕ}
+use lib.Dec.{leb}
+use lib.IntN.{pos, negsuc, subℕ}
 use lib.Signed.{leZ}
 use Rattle.card.proofs.Words.{same-test}
 use Rattle.score.specs.Features.{Bounded}

@@ -9,3 +9,5 @@ pub mod Signs
 pub mod Digits
 pub mod Putting
 pub mod Answering
+pub mod Examples
+pub mod Unique

@@ -1,12 +1,11 @@
 -- At most four cards can go home at once: each is the next of its suit, and lies once on the table.
-use mathlib.Core.Path.{_≡_, refl, sym, ap, _∙_, subst}
+use mathlib.Core.Path.{_≡_, refl, sym, ap, _∙_}
 use mathlib.Core.Bool.{Bool, true, false, cond}
 use mathlib.Core.List.{List, [], _∷_, _++_}
-use Prim.Native.Nat.{ℕ, zero, suc, _+_, _-_, _*_, _/_, _%_, _<_, _≤_}
+use Prim.Native.Nat.{ℕ, zero, suc, _+_, _*_, _/_, _%_, _<_, _≤_}
 use native.Mathlib.Nat.{le-trans, le-of-suc-le-suc}
 use native.Mathlib.Omega.{arith}
 use borrow.Author.Tests.{eqb-true}
-use lib.Dec.{eqb}
 use lib.ListN.{length, getD}
 use Rattle.card.specs.Words.{sum, all, occurs, listed, concat}
 use Rattle.card.specs.Card.{isCard}
@@ -14,13 +13,11 @@ use Rattle.card.specs.Pack.{cardAt, placeOf}
 use Rattle.card.proofs.Words.{first, second, true-or-not, all-at, every-at, all-concat, occurs-here, occurs-other, occurs-none, occurs-append, occurs-concat}
 use Rattle.card.proofs.Sums.{sum-part, sum-swap, sum-ones, sum-add}
 use Rattle.card.proofs.Codes.{card-is, at-place, place-below}
-use Rattle.board.specs.Table.{held}
-use Rattle.board.proofs.Tables.{held-each}
 use Rattle.rules.specs.Fit.{homeTakes}
 use Rattle.score.specs.Features.{lastGoesHome}
 use Rattle.score.proofs.Homing.{last-none, last-some}
 
-pub sum-most : (f g : ℕ → ℕ) (n : ℕ) → ((k : ℕ) → k < n → f k ≤ g k) → sum n f ≤ sum n g
+sum-most : (f g : ℕ → ℕ) (n : ℕ) → ((k : ℕ) → k < n → f k ≤ g k) → sum n f ≤ sum n g
 unfolding sum
 sum-most f g zero h = omega arith
 sum-most f g (suc n) h = omega (arith, sum-most f g n (λ k l. h k (omega arith)), h n (omega arith))
@@ -65,7 +62,7 @@ module _ (foundation : List ℕ) where
       let p = sum-part (λ s. occurs (next s) l) 4 (x % 16) (card-is x c .suit) in
       omega arith
 
-  pub counts-next : (l : List ℕ) → all isCard l ≡ true → cond (lastGoesHome foundation l) 1 0 ≤ sum 4 (λ s. occurs (next s) l)
+  counts-next : (l : List ℕ) → all isCard l ≡ true → cond (lastGoesHome foundation l) 1 0 ≤ sum 4 (λ s. occurs (next s) l)
   counts-next l cards = by-test (lastGoesHome foundation l) refl (length l) refl
     where
       by-test : (t : Bool) → lastGoesHome foundation l ≡ t → (n : ℕ) → length l ≡ n → cond t 1 0 ≤ sum 4 (λ s. occurs (next s) l)

@@ -1,11 +1,11 @@
 -- Bytes put into lent room at a place, and more bytes after them.
 use mathlib.Core.Path.{_≡_, refl, sym, ap, ap₂, _∙_, subst}
 use mathlib.Core.List.{List, [], _∷_, _++_, append-assoc}
-use Prim.Native.Nat.{ℕ, suc, _+_, _-_, _<_, _≤_}
+use Prim.Native.Nat.{ℕ, suc, _+_, _<_, _≤_}
 use native.Mathlib.Numerals.{add-one}
 use native.Mathlib.Omega.{arith}
 use lib.ListN.{length, getD, set, take, drop, length-append, length-drop}
-use lib.Seq.{paste, paste-zero, paste-suc, length-paste, take-paste, drop-paste, take-length, take-suc, drop-cons, drop-drop, length-take-le, take-at, drop-append-add}
+use lib.Seq.{paste, paste-zero, paste-suc, length-paste, take-length, take-suc, drop-cons, drop-drop, length-take-le, take-at, drop-append-add}
 use Rattle.card.specs.Words.{concat}
 use Rattle.card.proofs.Words.{concat-append, concat-one}
 use Rattle.score.specs.Asked.{Puts, over}

@@ -1,5 +1,5 @@
 -- The seven features of a board: each a sum, a most or a least over columns, cells or suits.
-use mathlib.Core.Bool.{Bool, true, false, cond}
+use mathlib.Core.Bool.{Bool, false, cond}
 use mathlib.Core.List.{List, [], _∷_}
 use Prim.Native.Nat.{ℕ, zero, suc, _+_, _-_, _/_, _≤_, min, max}
 use lib.Dec.{eqb, leb}

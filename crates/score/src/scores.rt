@@ -1,6 +1,6 @@
 // The two scores of a board's features.
 ghost use mathlib.Core.Path.{_≡_};
-ghost use Prim.Native.Nat.{_+_, _-_, _*_, _<_, _≤_};
+ghost use Prim.Native.Nat.{_≤_};
 ghost use lib.IntN.{subℕ};
 ghost use Rattle.score.specs.Features.{Bounded};
 ghost use Rattle.score.specs.Scores.{heuristicAdds, heuristicTakes, heuristic, heuristicKey, progressAdds, progressTakes, progress, progressKey};

@@ -1,5 +1,4 @@
 -- What `blocked_by` leaves to be shown: a low card counts the cards on it.
-use native.Mathlib.Omega.{arith}
 use Rattle.score.proofs.Blocking.{by-low, by-high}
 use Rattle.score.proofs.measure.blocked_by.Statement.{statement}
 use Rattle.score.proofs.measure.blocked_by.Tie as tie

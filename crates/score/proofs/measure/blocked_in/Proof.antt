@@ -1,5 +1,5 @@
 -- What `blocked_in` leaves to be shown: what is counted, and what the cards ahead still add.
-use mathlib.Core.Path.{_≡_, refl}
+use mathlib.Core.Path.{_≡_}
 use Prim.Native.Nat.{_+_, _-_, _*_, _/_, _≤_}
 use lib.Dec.{leb}
 use lib.ListN.{length, getD, drop}

@@ -1,5 +1,5 @@
 -- What `column_home` leaves to be shown: the last card of the column, if it has one.
-use mathlib.Core.Path.{_∙_, ap}
+use mathlib.Core.Path.{_∙_}
 use Prim.Native.Nat.{_-_}
 use native.Mathlib.Omega.{arith}
 use Rattle.score.proofs.Homing.{column-none, column-last, one-home, no-home}

@@ -1,7 +1,6 @@
 -- What `foundation_imbalance` leaves to be shown: the greatest and the least of four.
 use mathlib.Core.Path.{ap₂}
 use Prim.Native.Nat.{_-_}
-use native.Mathlib.Omega.{arith}
 use Rattle.score.specs.Features.{imbalanceOf}
 use Rattle.score.proofs.Extremes.{greatest-four, least-four}
 use borrow.Author.Needs.{needs}

@@ -3,7 +3,6 @@ use mathlib.Core.Path.{_≡_, refl, sym, ap, _∙_}
 use mathlib.Core.List.{[]}
 use Prim.Native.Nat.{ℕ, _-_, _≤_}
 use native.Mathlib.Omega.{arith}
-use Rattle.card.specs.Words.{listed}
 use Rattle.card.proofs.Words.{getD-listed}
 use Rattle.board.specs.Record.{columnAt}
 use Rattle.rules.specs.Run.{runLength}

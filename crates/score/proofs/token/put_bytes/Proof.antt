@@ -1,5 +1,4 @@
 -- What `put_bytes` leaves to be shown: a loop that copies byte by byte.
-use mathlib.Core.Path.{_≡_}
 use Prim.Native.Nat.{_-_}
 use lib.ListN.{length}
 use native.Mathlib.Omega.{arith}

@@ -1,11 +1,5 @@
 -- What `token_at` leaves to be shown: the seven parts one after the other.
-use mathlib.Core.Path.{_≡_, sym, subst}
-use mathlib.Core.List.{List}
-use Prim.Native.Nat.{ℕ, _≤_}
-use lib.ListN.{length}
 use native.Mathlib.Omega.{arith}
-use Rattle.card.specs.Words.{concat}
-use Rattle.score.specs.Token.{tokenOf}
 use Rattle.score.proofs.Digits.{parts, parts-room, parts-are}
 use Rattle.score.proofs.Putting.{reach-start, reach-room, reach-next, reach-end, reach-long}
 use borrow.Author.Needs.{needs}
