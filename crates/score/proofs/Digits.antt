@@ -1,6 +1,6 @@
 -- Decimal digits of a number below a thousand, and how long a token is.
 use mathlib.Core.Path.{_≡_, sym, ap, _∙_}
-use mathlib.Core.List.{List, [], _∷_, _++_, append-assoc, append-nil}
+use mathlib.Core.List.{List, [], _∷_, _++_}
 use Prim.Native.Nat.{ℕ, suc, _+_, _/_, _%_, _<_, _≤_}
 use native.Mathlib.Omega.{arith}
 use native.Mathlib.Decide.{decLt}
@@ -59,35 +59,23 @@ long-three n h = by-side (decLt n 100)
     by-side (yes l) = let e = long-two n l in omega arith
     by-side (no l) = let e = ap length (decimal-three n (omega arith) h) in omega arith
 
--- the room that a token is asked for is enough
-pub token-32 : (f : Features) → Bounded f → length (tokenOf f) ≤ 32
-unfolding tokenOf
-token-32 f b =
-    let home = long-two (f .home) (omega arith) in
-    let immediate = long-one (f .immediate) (omega arith) in
-    let used = long-one (f .used) (omega arith) in
-    let empty = long-one (f .empty) (omega arith) in
-    let longest = long-two (f .longest) (omega arith) in
-    let blocked = long-three (f .blocked) (omega arith) in
-    let imbalance = long-two (f .imbalance) (omega arith) in
-    simp length-append (omega arith)
+module _ (f : Features) where
+  -- the parts of a token, added up
+  pub token-long : length (tokenOf f)
+      ≡ 2 + length (decimal (f .home)) + (3 + length (decimal (f .immediate)) + (3 + length (decimal (f .used)) + (3 + length (decimal (f .empty))
+      + (3 + length (decimal (f .longest)) + (3 + length (decimal (f .blocked)) + (3 + length (decimal (f .imbalance))))))))
+  unfolding tokenOf concat
+  token-long = simp length-append (omega arith)
 
--- ---- the seven parts of a token, each a label and its number
-
-abbrev pub parts : Features → List (List ℕ)
-parts f =
-    ((102 ∷ 58 ∷ []) ++ decimal (f .home))
-    ∷ ((124 ∷ 105 ∷ 58 ∷ []) ++ decimal (f .immediate))
-    ∷ ((124 ∷ 117 ∷ 58 ∷ []) ++ decimal (f .used))
-    ∷ ((124 ∷ 101 ∷ 58 ∷ []) ++ decimal (f .empty))
-    ∷ ((124 ∷ 114 ∷ 58 ∷ []) ++ decimal (f .longest))
-    ∷ ((124 ∷ 98 ∷ 58 ∷ []) ++ decimal (f .blocked))
-    ∷ ((124 ∷ 109 ∷ 58 ∷ []) ++ decimal (f .imbalance))
-    ∷ []
-
-pub parts-are : (f : Features) → concat (parts f) ≡ tokenOf f
-unfolding concat tokenOf
-parts-are f = simp (append-assoc, append-nil)
-
-pub parts-room : (f : Features) {n : ℕ} → length (tokenOf f) ≤ n → length (concat (parts f)) ≤ n
-parts-room f h = omega (arith, ap length (parts-are f))
+  -- the room that a token is asked for is enough
+  pub token-32 : Bounded f → length (tokenOf f) ≤ 32
+  token-32 b =
+      let long = token-long in
+      let home = long-two (f .home) (omega arith) in
+      let immediate = long-one (f .immediate) (omega arith) in
+      let used = long-one (f .used) (omega arith) in
+      let empty = long-one (f .empty) (omega arith) in
+      let longest = long-two (f .longest) (omega arith) in
+      let blocked = long-three (f .blocked) (omega arith) in
+      let imbalance = long-two (f .imbalance) (omega arith) in
+      omega arith

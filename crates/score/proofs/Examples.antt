@@ -2,7 +2,7 @@
 use mathlib.Core.Path.{_≡_, refl, ap}
 use mathlib.Core.List.{[], _∷_}
 use lib.IntN.{pos}
-use Rattle.card.specs.Words.{sum}
+use Rattle.card.specs.Words.{sum, concat}
 use Rattle.board.specs.Table.{Table, held}
 use Rattle.questions.specs.Questions.{homeCount, emptyColumns}
 use Rattle.rules.specs.Fit.{homeTakes}
@@ -34,5 +34,5 @@ P2-progress = ap progress P2-features
 -- f:51|i:1|u:0|e:7|r:1|b:0|m:1
 pub P2-token : tokenOf (featuresOf S)
     ≡ 102 ∷ 58 ∷ 53 ∷ 49 ∷ 124 ∷ 105 ∷ 58 ∷ 49 ∷ 124 ∷ 117 ∷ 58 ∷ 48 ∷ 124 ∷ 101 ∷ 58 ∷ 55 ∷ 124 ∷ 114 ∷ 58 ∷ 49 ∷ 124 ∷ 98 ∷ 58 ∷ 48 ∷ 124 ∷ 109 ∷ 58 ∷ 49 ∷ []
-unfolding tokenOf decimal digitsIn
+unfolding tokenOf decimal digitsIn concat
 P2-token = ap tokenOf P2-features

@@ -4,8 +4,8 @@ use mathlib.Core.List.{List, [], _∷_, _++_, append-assoc}
 use Prim.Native.Nat.{ℕ, suc, _+_, _<_, _≤_}
 use native.Mathlib.Numerals.{add-one}
 use native.Mathlib.Omega.{arith}
-use lib.ListN.{length, getD, set, take, drop, length-append, length-drop}
-use lib.Seq.{paste, paste-zero, paste-suc, length-paste, take-length, take-suc, drop-cons, drop-drop, length-take-le, take-at, drop-append-add}
+use lib.ListN.{length, getD, set, take, drop, length-append, length-drop, take-append-drop}
+use lib.Seq.{paste, paste-zero, paste-suc, length-paste, take-length, take-suc, drop-drop, length-take-le, take-at, drop-append-add}
 use Rattle.card.specs.Words.{concat}
 use Rattle.card.proofs.Words.{concat-append, concat-one}
 use Rattle.score.specs.Asked.{Puts, over}
@@ -95,49 +95,28 @@ pub puts-over : {old new : List ℕ} {r : ℕ} {s : List ℕ} → Puts old new 0
 unfolding over
 puts-over {old} {new} {r} {s} a = a .room ∙ ap (λ (n : ℕ). s ++ drop n old) (let q : 0 + length s ≡ length s = omega arith in q)
 
--- ---- list after list: the first k are put, and there is room for the others
+-- ---- list after list: the first k of some that all have room
 
 pub record Reached (ps : List (List ℕ)) (k : ℕ) (old now : List ℕ) (at : ℕ) : Type 0 where
+  pub fits : length (concat ps) ≤ length old
   pub puts : Puts old now 0 at (concat (take k ps))
-  pub due : at + length (concat (drop k ps)) ≤ length now
-  pub room : 0 + length (concat (take k ps)) ≤ length old
 
 pub reach-start : (ps : List (List ℕ)) (old : List ℕ) → length (concat ps) ≤ length old → Reached ps 0 old old 0
 unfolding concat
-reach-start ps old h = record { puts = record { room = refl; after = refl }; due = omega arith; room = omega arith }
+reach-start ps old h = record { fits = h; puts = record { room = refl; after = refl } }
 
 module _ {ps : List (List ℕ)} {old now : List ℕ} {at : ℕ} (k : ℕ) (h : k < length ps) (r : Reached ps k old now at) where
-  rest : concat (drop k ps) ≡ getD ps k [] ++ concat (drop (suc k) ps)
-  unfolding concat
-  rest = ap concat (drop-cons ps k [] h)
-
   upto : concat (take (suc k) ps) ≡ concat (take k ps) ++ getD ps k []
-  upto = ap concat (take-suc ps k [] h) ∙ concat-append (take k ps) (getD ps k [] ∷ []) ∙ ap (λ (l : List ℕ). concat (take k ps) ++ l) (concat-one (getD ps k []))
+  upto =
+      ap concat (take-suc ps k [] h) ∙ concat-append (take k ps) (getD ps k [] ∷ [])
+      ∙ ap (λ (l : List ℕ). concat (take k ps) ++ l) (concat-one (getD ps k []))
 
-  pub reach-room : at + length (getD ps k []) ≤ length now
-  reach-room = let d = r .due in omega (arith, ap length rest, length-append (getD ps k []) (concat (drop (suc k) ps)))
+  so-far : length (concat (take k ps)) ≤ length (concat ps)
+  so-far =
+      omega (arith, ap length (sym (concat-append (take k ps) (drop k ps)) ∙ ap concat (take-append-drop k ps)), length-append (concat (take k ps)) (concat (drop k ps)))
 
   pub reach-next : {new : List ℕ} {more : ℕ} → Puts now new at more (getD ps k []) → Reached ps (suc k) old new more
-  reach-next {new} {more} p =
-      let l = puts-long (r .room) (r .puts) in
-      let n = puts-long reach-room p in
-      let e = ap length upto in
-      let f = ap length rest in
-      let g = length-append (concat (take k ps)) (getD ps k []) in
-      let q = length-append (getD ps k []) (concat (drop (suc k) ps)) in
-      let a = r .puts .after in
-      let m = p .after in
-      let d = r .due in
-      record {
-        puts = puts-same (sym upto) (puts-more (r .room) (r .puts) p);
-        due = omega arith;
-        room = omega arith;
-      }
-
--- all of them are put
-module _ {ps : List (List ℕ)} {old now : List ℕ} {at : ℕ} (k : ℕ) (r : Reached ps k old now at) where
-  pub reach-long : length now ≡ length old
-  reach-long = puts-long (r .room) (r .puts)
-
-  pub reach-end : {s : List ℕ} → concat (take k ps) ≡ s → Puts old now 0 at s
-  reach-end e = puts-same e (r .puts)
+  reach-next p =
+      let s = so-far in
+      let f = r .fits in
+      record { fits = f; puts = puts-same (sym upto) (puts-more (omega arith) (r .puts) p) }
