@@ -8,7 +8,7 @@ use Rattle.questions.specs.Questions.{homeCount, emptyColumns}
 use Rattle.rules.specs.Fit.{homeTakes}
 use Rattle.rules.specs.Run.{isRun, runLength}
 use Rattle.score.specs.Features.{greatest, least, lastGoesHome, immediateOn, blockedIn, blockedOn, imbalanceOf, cellsUsed, longestRun, featuresOf}
-use Rattle.score.specs.Scores.{heuristicAdds, heuristicTakes, heuristic, progressAdds, progressTakes, progress}
+use Rattle.score.specs.Scores.{heuristic, progress}
 use Rattle.score.specs.Token.{digitsIn, decimal, tokenOf}
 
 abbrev S : Table
@@ -24,11 +24,11 @@ unfolding featuresOf homeCount immediateOn lastGoesHome homeTakes held blockedOn
 P2-features = refl
 
 pub P2-heuristic : heuristic (featuresOf S) ≡ pos 29
-unfolding heuristic heuristicAdds heuristicTakes
+unfolding heuristic
 P2-heuristic = ap heuristic P2-features
 
 pub P2-progress : progress (featuresOf S) ≡ pos 128275
-unfolding progress progressAdds progressTakes
+unfolding progress
 P2-progress = ap progress P2-features
 
 -- f:51|i:1|u:0|e:7|r:1|b:0|m:1
@@ -36,3 +36,12 @@ pub P2-token : tokenOf (featuresOf S)
     ≡ 102 ∷ 58 ∷ 53 ∷ 49 ∷ 124 ∷ 105 ∷ 58 ∷ 49 ∷ 124 ∷ 117 ∷ 58 ∷ 48 ∷ 124 ∷ 101 ∷ 58 ∷ 55 ∷ 124 ∷ 114 ∷ 58 ∷ 49 ∷ 124 ∷ 98 ∷ 58 ∷ 48 ∷ 124 ∷ 109 ∷ 58 ∷ 49 ∷ []
 unfolding tokenOf decimal digitsIn concat
 P2-token = ap tokenOf P2-features
+
+-- the fewest and the most digits of a feature
+pub digits-0 : decimal 0 ≡ 48 ∷ []
+unfolding decimal digitsIn
+digits-0 = refl
+
+pub digits-546 : decimal 546 ≡ 53 ∷ 52 ∷ 54 ∷ []
+unfolding decimal digitsIn
+digits-546 = refl

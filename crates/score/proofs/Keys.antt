@@ -49,19 +49,15 @@ compared m n k = by-sides (decLt m k) (decLt n k)
 
 module _ (f : Features) (b : Bounded f) where
   pub heuristic-adds-most : heuristicAdds f ≤ 16280
-  unfolding heuristicAdds
   heuristic-adds-most = omega arith
 
   pub heuristic-takes-most : heuristicTakes f ≤ heuristicBias
-  unfolding heuristicTakes
   heuristic-takes-most = omega arith
 
   pub progress-adds-most : progressAdds f ≤ 131525
-  unfolding progressAdds
   progress-adds-most = omega arith
 
   pub progress-takes-most : progressTakes f ≤ progressBias
-  unfolding progressTakes
   progress-takes-most = omega arith
 
   -- ---- the keys

@@ -4,14 +4,14 @@ use lib.IntN.{ℤ, subℕ}
 use Rattle.score.specs.Weights.{HEURISTIC_FOUNDATION_REMAINING_WEIGHT, HEURISTIC_FREE_USED_PENALTY, HEURISTIC_LOW_BLOCKED_PENALTY, HEURISTIC_FOUNDATION_IMBALANCE_PENALTY, HEURISTIC_EMPTY_TABLEAU_BONUS, HEURISTIC_LONGEST_RUN_BONUS, HEURISTIC_IMMEDIATE_FOUNDATION_BONUS, PROGRESS_FOUNDATION_WEIGHT, PROGRESS_IMMEDIATE_FOUNDATION_WEIGHT, PROGRESS_EMPTY_TABLEAU_BONUS, PROGRESS_LONGEST_RUN_BONUS, PROGRESS_FREE_USED_PENALTY, PROGRESS_LOW_BLOCKED_PENALTY}
 use Rattle.score.specs.declared.Features.{Features}
 
-unfoldable pub heuristicAdds : Features → ℕ
+abbrev pub heuristicAdds : Features → ℕ
 heuristicAdds f =
     (52 - f .home) * HEURISTIC_FOUNDATION_REMAINING_WEIGHT
     + f .used * HEURISTIC_FREE_USED_PENALTY
     + f .blocked * HEURISTIC_LOW_BLOCKED_PENALTY
     + f .imbalance * HEURISTIC_FOUNDATION_IMBALANCE_PENALTY
 
-unfoldable pub heuristicTakes : Features → ℕ
+abbrev pub heuristicTakes : Features → ℕ
 heuristicTakes f =
     f .empty * HEURISTIC_EMPTY_TABLEAU_BONUS
     + f .longest * HEURISTIC_LONGEST_RUN_BONUS
@@ -20,14 +20,14 @@ heuristicTakes f =
 unfoldable pub heuristic : Features → ℤ
 heuristic f = subℕ (heuristicAdds f) (heuristicTakes f)
 
-unfoldable pub progressAdds : Features → ℕ
+abbrev pub progressAdds : Features → ℕ
 progressAdds f =
     f .home * PROGRESS_FOUNDATION_WEIGHT
     + f .immediate * PROGRESS_IMMEDIATE_FOUNDATION_WEIGHT
     + f .empty * PROGRESS_EMPTY_TABLEAU_BONUS
     + f .longest * PROGRESS_LONGEST_RUN_BONUS
 
-unfoldable pub progressTakes : Features → ℕ
+abbrev pub progressTakes : Features → ℕ
 progressTakes f = f .used * PROGRESS_FREE_USED_PENALTY + f .blocked * PROGRESS_LOW_BLOCKED_PENALTY
 
 unfoldable pub progress : Features → ℤ
