@@ -99,7 +99,7 @@ module _ (m : Move) where
   in-right [] t i = i
   in-right (x ∷ s) t i = inr (in-right s t i)
 
-  in-either : (s t : List Move) → isIn m (s ++ t) → isIn m s ⊎ isIn m t
+  pub in-either : (s t : List Move) → isIn m (s ++ t) → isIn m s ⊎ isIn m t
   in-either [] t i = inr i
   in-either (x ∷ s) t (inl e) = inl (inl e)
   in-either (x ∷ s) t (inr i) = ⊎-elim (λ a. inl (inr a)) (λ b. inr b) (in-either s t i)
@@ -114,7 +114,7 @@ module _ (m : Move) where
       by-side before (no d) = in-left (gather n f) (f n) (before (omega arith) i)
 
   -- what follows from standing in any of the lists follows from standing in all of them together
-  pub gather-by : {P : Type 0} (f : ℕ → List Move) (n : ℕ) → ((k : ℕ) → isIn m (f k) → P) → isIn m (gather n f) → P
+  pub gather-by : {P : Type 0} (f : ℕ → List Move) (n : ℕ) → ((k : ℕ) → k < n → isIn m (f k) → P) → isIn m (gather n f) → P
   unfolding gather
   gather-by f zero h i = absurd i
-  gather-by f (suc n) h i = ⊎-elim (λ a. gather-by f n h a) (λ b. h n b) (in-either (gather n f) (f n) i)
+  gather-by f (suc n) h i = ⊎-elim (λ a. gather-by f n (λ k l. h k (omega arith)) a) (λ b. h n (omega arith) b) (in-either (gather n f) (f n) i)

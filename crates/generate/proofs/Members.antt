@@ -1,4 +1,4 @@
--- The moves found are exactly the allowed moves of their kind.
+-- The moves found are exactly the allowed moves of their kind, and each can be said.
 use mathlib.Core.Path.{_≡_, refl, sym, ap, _∙_, subst}
 use mathlib.Core.Bool.{Bool, true, false, cond}
 use mathlib.Core.List.{[], _∷_}
@@ -6,12 +6,13 @@ use mathlib.Core.Logic.{inl, inr}
 use Prim.Native.Nat.{ℕ, suc, _-_, _<_, _≤_}
 use native.Mathlib.Omega.{arith}
 use borrow.Author.Tests.{ltb-true}
-use lib.ListN.{getD}
+use lib.ListN.{length, getD}
 use Rattle.card.specs.Suit.{suitNumber}
-use Rattle.card.specs.Card.{cardOf}
+use Rattle.card.specs.Card.{isCard, cardOf}
 use Rattle.card.specs.declared.Suit.{Suit}
 use Rattle.card.specs.declared.Card.{Card}
-use Rattle.card.proofs.Codes.{suit-below, suit-at-number, card-code}
+use Rattle.card.proofs.Words.{all-at}
+use Rattle.card.proofs.Codes.{suit-below, suit-at-number, card-code, value-of-card}
 use Rattle.board.specs.Table.{Table}
 use Rattle.rules.proofs.Laying.{run-13}
 use Rattle.moves.specs.Move.{Place, column, from, count, card, sayable}
@@ -19,13 +20,14 @@ use Rattle.moves.specs.Play.{there, lastOf, hand, allowed}
 use Rattle.moves.specs.declared.Move.{Move}
 use Rattle.moves.specs.declared.Move.the-variants.{TableauToTableau, TableauToFoundation, TableauToFreeCell, FreeCellToTableau, FreeCellToFoundation, FoundationToTableau}
 use Rattle.moves.proofs.Records.{said-from, said-to, said-count}
-use Rattle.moves.proofs.Allowing.{allowed-is}
+use Rattle.moves.proofs.Allowing.{allowed-is, last-first}
 use Rattle.moves.proofs.Fairness.{Fair, fair-cards}
 use Rattle.generate.specs.Found.{sourceCount, source, targetCount, lengthCount, moveFrom, offered, ifAllowed, foundBetween, foundFrom, found, wayOf, isIn}
 use Rattle.generate.specs.declared.Way.{Way}
 use Rattle.generate.specs.declared.Way.the-variants.{ColumnToColumn, ColumnToHome, ColumnToCell, CellToColumn, CellToHome, HomeToColumn}
 use Rattle.generate.proofs.Gathering.{gather-in, gather-by}
-use Rattle.generate.proofs.Offering.{if-allowed}
+use Rattle.generate.proofs.Places.{source-there}
+use Rattle.generate.proofs.Offering.{comes-from, said-way, if-allowed}
 use Rattle.generate.proofs.Columns.{run-bounds}
 
 -- ---- a move that is found is allowed, and of its kind
@@ -47,13 +49,76 @@ one-allowed t w m x k i = by-test (allowed t x) refl i
     by-test true e (inr z) = absurd z
     by-test false e z = absurd z
 
+-- what holds of each move offered that is allowed holds of each move found
+module _ (t : Table) (w : Way) (m : Move) {P : Type 0} where
+  found-by : ((i j k : ℕ) → i < sourceCount w → j < targetCount w → k < lengthCount w → isIn m (ifAllowed t (offered t w i j (suc k))) → P) → isIn m (found t w) → P
+  unfolding found foundFrom foundBetween
+  found-by h =
+      gather-by m (foundFrom t w) (sourceCount w)
+      (λ i a. gather-by m (foundBetween t w i) (targetCount w)
+      (λ j b. gather-by m (λ k. ifAllowed t (offered t w i j (suc k))) (lengthCount w) (λ k c. h i j k a b c)))
+
 pub found-allowed : (t : Table) (w : Way) (m : Move) → isIn m (found t w) → (allowed t m ≡ true) × (wayOf m ≡ w)
-unfolding found foundFrom foundBetween offered
+unfolding offered
 found-allowed t w m =
-    gather-by m (foundFrom t w) (sourceCount w)
-    (λ i. gather-by m (foundBetween t w i) (targetCount w)
-    (λ j. gather-by m (λ k. ifAllowed t (offered t w i j (suc k))) (lengthCount w)
-    (λ k. one-allowed t w m (offered t w i j (suc k)) (kind-of w i j (suc k) (cardOf (getD (lastOf (suc k) (there t (source w i))) 0 0))))))
+    found-by t w m
+    (λ i j k a b c. one-allowed t w m (offered t w i j (suc k)) (kind-of w i j (suc k) (cardOf (getD (lastOf (suc k) (there t (source w i))) 0 0))))
+
+-- ---- it can be said
+
+card-moved : (w : Way) (i j n : ℕ) (c : Card) → card (moveFrom w i j n c) ≡ c
+card-moved ColumnToColumn i j n c = refl
+card-moved ColumnToHome i j n c = refl
+card-moved ColumnToCell i j n c = refl
+card-moved CellToColumn i j n c = refl
+card-moved CellToHome i j n c = refl
+card-moved HomeToColumn i j n c = refl
+
+-- as many cards as are tried
+count-moved : (w : Way) (i j k : ℕ) (c : Card) → k < lengthCount w → count (moveFrom w i j (suc k) c) ≡ suc k
+count-moved ColumnToColumn i j k c h = refl
+count-moved ColumnToHome i j k c h = omega arith
+count-moved ColumnToCell i j k c h = omega arith
+count-moved CellToColumn i j k c h = omega arith
+count-moved CellToHome i j k c h = omega arith
+count-moved HomeToColumn i j k c h = omega arith
+
+most-tried : (w : Way) → lengthCount w ≤ 13
+most-tried ColumnToColumn = omega arith
+most-tried ColumnToHome = omega arith
+most-tried ColumnToCell = omega arith
+most-tried CellToColumn = omega arith
+most-tried CellToHome = omega arith
+most-tried HomeToColumn = omega arith
+
+-- the card there is one, if there are so many
+offered-said : (t : Table) (w : Way) (i j k : ℕ) → Fair t → i < sourceCount w → j < targetCount w → k < lengthCount w
+    → allowed t (offered t w i j (suc k)) ≡ true → sayable (offered t w i j (suc k)) ≡ true
+unfolding offered
+offered-said t w i j k f a b h e =
+    let l = there t (source w i) in
+    let x = getD (lastOf (suc k) l) 0 0 in
+    let m = moveFrom w i j (suc k) (cardOf x) in
+    let many = allowed-is t m e .enough in
+    let n = count-moved w i j k (cardOf x) h in
+    let q = ap (λ (p : Place). length (there t p)) (comes-from w i j (suc k) (cardOf x) a) in
+    let most = most-tried w in
+    let cards = fair-cards t (source w i) f (source-there w i a) in
+    said-way w i j (suc k) (cardOf x) a b (omega arith) (omega arith)
+    (value-of-card x
+    (subst (λ (y : ℕ). isCard y ≡ true) (sym (last-first (suc k) l)) (all-at isCard l cards (length l - suc k) (omega arith))))
+
+one-said : (t : Table) (m x : Move) → (allowed t x ≡ true → sayable x ≡ true) → isIn m (ifAllowed t x) → sayable m ≡ true
+unfolding ifAllowed
+one-said t m x s i = by-test (allowed t x) refl i
+  where
+    by-test : (a : Bool) → allowed t x ≡ a → isIn m (cond a (x ∷ []) []) → sayable m ≡ true
+    by-test true e (inl q) = ap sayable q ∙ s e
+    by-test true e (inr z) = absurd z
+    by-test false e z = absurd z
+
+pub found-said : (t : Table) (w : Way) (m : Move) → Fair t → isIn m (found t w) → sayable m ≡ true
+found-said t w m f = found-by t w m (λ i j k a b c. one-said t m (offered t w i j (suc k)) (offered-said t w i j k f a b c))
 
 -- ---- an allowed move is found
 

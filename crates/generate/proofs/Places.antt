@@ -39,7 +39,7 @@ to-below j h e = subst (λ (w : Way). j < targetCount w) e h
 
 -- ---- only cards lie there
 
-source-there : (w : Way) (i : ℕ) → i < sourceCount w → isPlace (source w i) ≡ true
+pub source-there : (w : Way) (i : ℕ) → i < sourceCount w → isPlace (source w i) ≡ true
 source-there ColumnToColumn i h = lt-ltb i 8 h
 source-there ColumnToHome i h = lt-ltb i 8 h
 source-there ColumnToCell i h = lt-ltb i 8 h
@@ -68,7 +68,7 @@ module _ (s n : ℕ) where
       (let q : ((n - 1 + 1) * 16 + s) % 16 ≡ s = omega arith in q) (let q : ((n - 1 + 1) * 16 + s) / 16 ≡ n = omega arith in q)
       ∙ ap (λ (k : Suit). Is (record { suit = k; value = n })) (sym e))
 
-cell-top : (x : ℕ) → cellOf x ≡ topOf (held (x ∷ []))
+pub cell-top : (x : ℕ) → cellOf x ≡ topOf (held (x ∷ []))
 unfolding cellOf held topOf
 cell-top x = by-test (eqb x 255)
   where

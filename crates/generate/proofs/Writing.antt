@@ -26,7 +26,7 @@ record-long (FreeCellToTableau i d c) = refl
 record-long (FreeCellToFoundation i c) = refl
 record-long (FoundationToTableau s d c) = refl
 
-bytes-long : (ms : List Move) → length (bytesOf ms) ≡ length ms * 5
+pub bytes-long : (ms : List Move) → length (bytesOf ms) ≡ length ms * 5
 unfolding bytesOf
 bytes-long [] = refl
 bytes-long (m ∷ ms) =

@@ -1,24 +1,25 @@
 -- Record and move say each other.
 use mathlib.Core.Path.{_≡_, refl, sym, ap, ap₂, _∙_, subst}
-use mathlib.Core.Bool.{true, false}
+use mathlib.Core.Bool.{Bool, true, false}
 use mathlib.Core.List.{List, [], _∷_}
 use Prim.Native.Nat.{ℕ, zero, suc, _%_, _≤_}
 use native.Mathlib.Omega.{arith}
-use borrow.Author.Tests.{eqb-true, ltb-true, ne-eqb, lt-leb, le-leb, lt-ltb}
+use borrow.Author.Tests.{eqb-true, ltb-true, eq-eqb, ne-eqb, lt-leb, le-leb, lt-ltb}
 use lib.Dec.{eqb, ltb}
 use lib.ListN.{length, getD}
 use Rattle.card.specs.Suit.{suitNumber, suitAt}
 use Rattle.card.specs.Card.{isCard, isValue, cardOf, codeOf}
 use Rattle.card.specs.declared.Card.{Card}
 use Rattle.card.specs.declared.Suit.{Suit}
-use Rattle.card.specs.Answer.{given}
+use Rattle.card.specs.Answer.{given, unless}
 use Rattle.card.proofs.Answers.{given-by}
 use Rattle.card.proofs.Words.{true-or-not, both, first, second}
-use Rattle.card.proofs.Codes.{card-is, value-of-card, card-code, code-card, suit-below, suit-at-number, number-suit-at}
+use Rattle.card.proofs.Codes.{card-is, value-of-card, card-code, code-card, code-is-card, suit-below, suit-at-number, number-suit-at}
 use Rattle.moves.specs.Move.{sayable}
 use Rattle.moves.specs.Record.{sourceRoom, targetAllows, countAllows, possible, moveSaid, moveOf, moveAsked, recordOf}
 use Rattle.moves.specs.declared.Move.{Move}
 use Rattle.moves.specs.declared.Move.the-variants.{TableauToTableau, TableauToFoundation, TableauToFreeCell, FreeCellToTableau, FreeCellToFoundation, FoundationToTableau}
+use Rattle.moves.proofs.Records.{said-from, said-to, said-count, said-value}
 
 -- the move of a move's record is that move
 pub move-of-record : (m : Move) → moveOf (recordOf m) ≡ m
@@ -124,3 +125,26 @@ said-asked r {m} byte e =
     let g = given-by (possible r) 30 (given (moveOf r)) (sym e) in
     let same : moveOf r ≡ m = (let q = g .1 in cc) in
     subst (λ (n : Move). sayable n ≡ true) same (said-of-record r byte (g .0))
+
+-- ---- the record of a move that can be said is possible
+
+own-number : (c : Card) → suitNumber (c .suit) ≡ codeOf c % 16
+unfolding codeOf
+own-number c = let s = suit-below (c .suit) in omega arith
+
+pub possible-said : (m : Move) → sayable m ≡ true → possible (recordOf m) ≡ true
+unfolding possible recordOf sourceRoom targetAllows countAllows
+possible-said (TableauToTableau s d n c) e =
+    both (code-is-card c (said-value _ e)) (both (said-from _ e) (both (said-to _ e) (le-leb 1 n (said-count (TableauToTableau s d n c) e))))
+possible-said (TableauToFoundation s c) e =
+    both (code-is-card c (said-value _ e)) (both (said-from _ e) (both (eq-eqb (suitNumber (c .suit)) (codeOf c % 16) (own-number c)) refl))
+possible-said (TableauToFreeCell s i c) e = both (code-is-card c (said-value _ e)) (both (said-from _ e) (both (said-to _ e) refl))
+possible-said (FreeCellToTableau i d c) e = both (code-is-card c (said-value _ e)) (both (said-from _ e) (both (said-to _ e) refl))
+possible-said (FreeCellToFoundation i c) e =
+    both (code-is-card c (said-value _ e)) (both (said-from _ e) (both (eq-eqb (suitNumber (c .suit)) (codeOf c % 16) (own-number c)) refl))
+possible-said (FoundationToTableau s d c) e = both (code-is-card c (said-value _ e)) (both (said-from _ e) (both (said-to _ e) refl))
+
+pub asked-said : (m : Move) → sayable m ≡ true → moveAsked (recordOf m) ≡ given m
+unfolding moveAsked
+asked-said m e =
+    ap (λ (ok : Bool). unless ok 30 (given (moveOf (recordOf m)))) (possible-said m e) ∙ ap (λ (n : Move). given n) (move-of-record m)

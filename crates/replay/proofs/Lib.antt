@@ -3,4 +3,5 @@ pub mod Stepping
 pub mod Lining
 pub mod Replaying
 pub mod Keeping
+pub mod Legal
 pub mod Unique

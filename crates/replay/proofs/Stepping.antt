@@ -91,14 +91,14 @@ fair-board b s =
       well = fine-fair (shown b) (sym (good-shape b (sound-shape s)) ∙ sound-fine s);
     }
 
-fair-laid : (t : Table) → Fair t → Laid t
+pub fair-laid : (t : Table) → Fair t → Laid t
 fair-laid t f = fits t (f .seats .four) (f .piles) (f .seats .eight) (fair t (f .well))
 
-fair-sound : (t : Table) → Fair t → Sound (boardOf t)
+pub fair-sound : (t : Table) → Fair t → Sound (boardOf t)
 fair-sound t f = let l = fair-laid t f in sound (boardOf t) (sized-of-record t l) (fine-of-record t l (fair t (f .well)))
 
 module _ (b : Board) (s : Sound b) (m : Move) (said : sayable m ≡ true) (ok : allowed (shown b) m ≡ true) where
-  fair-then : Fair (afterMove (shown b) m)
+  pub fair-then : Fair (afterMove (shown b) m)
   fair-then = fair-after (shown b) m (fair-board b s) said ok
 
   pub sound-after : Sound (boardOf (afterMove (shown b) m))

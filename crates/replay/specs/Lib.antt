@@ -2,3 +2,4 @@
 pub mod Step
 pub mod Line
 pub mod Handed
+pub mod Played

@@ -30,7 +30,7 @@ one-at-most false = omega arith
 
 -- ---- fit
 
-differ : (a b : Bool) → not (Bool·beq a b) ≡ xor a b
+pub differ : (a b : Bool) → not (Bool·beq a b) ≡ xor a b
 unfolding xor
 differ true true = refl
 differ true false = refl

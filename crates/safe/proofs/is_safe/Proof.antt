@@ -1,0 +1,56 @@
+-- What `is_safe` leaves to be shown: the board's refusals, then the code's.
+use mathlib.Core.Path.{sym, _∙_}
+use borrow.Author.Tests.{not-true, not-false}
+use Rattle.board.proofs.Soundness.{sound}
+use Rattle.questions.proofs.Asking.{after-no, verdict-fine}
+use Rattle.safe.specs.Asked.{safeAsked}
+use Rattle.safe.proofs.Handing.{asked-no-card, asked-safe}
+use borrow.Author.Needs.{needs}
+use Rattle.safe.proofs.is_safe.Statement.{statement}
+use Rattle.safe.proofs.is_safe.Tie as tie
+
+inspect-requires : tie.Need-inspect-requires
+inspect-requires c κs = search needs
+
+enum-known-why : tie.Need-enum-known-why
+enum-known-why c = search needs
+
+returns : tie.Need-returns
+unfolding safeAsked
+returns c = after-no _ (c .before .before .before .inspect .ensures) (c .before .why .given .1)
+
+enum-told : tie.Need-enum-told
+enum-told c = search needs
+
+is-card-requires : tie.Need-is-card-requires
+is-card-requires c κs = search needs
+
+returns-2 : tie.Need-returns-2
+returns-2 c =
+    asked-no-card (c .before .before .before .before .before .before .before .before .before .before .args .t1) (c .before .before .before .before .before .before .before .before .before .before .args .code) (c .before .before .before .before .inspect .ensures) (c .before .before .enum-told .given .1) (c .before .is-card .ensures) (not-true _ (c .if1 .taken))
+
+is-safe-at-requires : tie.Need-is-safe-at-requires
+is-safe-at-requires c κs =
+    ((sound (c .before .before .before .before .before .before .before .before .before .before .before .before .args .t1) (record { four = search needs; piles = search needs; eight = search needs; full = search needs }) (verdict-fine (c .before .before .before .before .before .before .inspect .ensures) (c .before .before .before .before .enum-told .given .1))) .inPiles, (sym (c .before .before .before .is-card .ensures) ∙ not-false _ (c .before .before .if1 .left)))
+
+returns-3 : tie.Need-returns-3
+returns-3 c =
+    asked-safe (c .before .before .before .before .before .before .before .before .before .before .before .before .before .before .args .t1) (c .before .before .before .before .before .before .before .before .before .before .before .before .before .before .args .code) (c .before .before .before .before .before .before .before .before .inspect .ensures) (c .before .before .before .before .before .before .enum-told .given .1) (c .before .before .before .before .before .is-card .ensures) (not-false _ (c .before .before .before .before .if1 .left)) (c .before .is-safe-at .ensures) (c .if2 .taken)
+
+returns-4 : tie.Need-returns-4
+returns-4 c =
+    asked-safe (c .before .before .before .before .before .before .before .before .before .before .before .before .before .before .args .t1) (c .before .before .before .before .before .before .before .before .before .before .before .before .before .before .args .code) (c .before .before .before .before .before .before .before .before .inspect .ensures) (c .before .before .before .before .before .before .enum-told .given .1) (c .before .before .before .before .before .is-card .ensures) (not-false _ (c .before .before .before .before .if1 .left)) (c .before .is-safe-at .ensures) (c .if2 .left)
+
+pub is-safe-spec : {M : Type 1} → statement M
+is-safe-spec =
+    tie.close
+    (tie.spec
+    inspect-requires
+    enum-known-why
+    returns
+    enum-told
+    is-card-requires
+    returns-2
+    is-safe-at-requires
+    returns-3
+    returns-4)
