@@ -104,8 +104,11 @@ module _ (b : Board) (s : Sound b) (m : Move) (said : sayable m ≡ true) (ok : 
   pub sound-after : Sound (boardOf (afterMove (shown b) m))
   sound-after = fair-sound (afterMove (shown b) m) fair-then
 
+  pub shown-after : shown (boardOf (afterMove (shown b) m)) ≡ afterMove (shown b) m
+  shown-after = shown-of-record (afterMove (shown b) m) (fair-laid (afterMove (shown b) m) fair-then)
+
   -- the same cards lie on it
   pub cards-after : (x : ℕ) → occurs x (cardsOn (shown (boardOf (afterMove (shown b) m)))) ≡ occurs x (cardsOn (shown b))
   cards-after x =
-      ap (λ (t : Table). occurs x (cardsOn t)) (shown-of-record (afterMove (shown b) m) (fair-laid (afterMove (shown b) m) fair-then))
+      ap (λ (t : Table). occurs x (cardsOn t)) shown-after
       ∙ allowed-keeps (shown b) m (fair-board b s .seats) said ok x

@@ -20,7 +20,7 @@ sub-below a b h = rw (lt-ltb a b h)
 pub sub-above : (a b : ℕ) → b ≤ a → subℕ a b ≡ pos (a - b)
 sub-above a b h = rw (le-ltb a b h)
 
-raised : (a t bias : ℕ) → t ≤ a + bias → subℕ (a + bias - t) bias ≡ subℕ a t
+pub raised : (a t bias : ℕ) → t ≤ a + bias → subℕ (a + bias - t) bias ≡ subℕ a t
 raised a t bias h = by-side (decLt a t)
   where
     by-side : Dec (a < t) → subℕ (a + bias - t) bias ≡ subℕ a t
@@ -33,7 +33,7 @@ same-order : (a b c d : ℕ) → (a ≤ b → c ≤ d) → (c ≤ d → a ≤ b)
 same-order a b c d f g = same-test (leb a b) (leb c d) (λ e. le-leb c d (f (leb-true a b e))) (λ e. le-leb a b (g (leb-true c d e)))
 
 -- less the same number, two numbers compare as before
-compared : (m n k : ℕ) → leb m n ≡ leZ (subℕ m k) (subℕ n k)
+pub compared : (m n k : ℕ) → leb m n ≡ leZ (subℕ m k) (subℕ n k)
 compared m n k = by-sides (decLt m k) (decLt n k)
   where
     by-sides : Dec (m < k) → Dec (n < k) → leb m n ≡ leZ (subℕ m k) (subℕ n k)

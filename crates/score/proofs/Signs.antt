@@ -33,7 +33,7 @@ module _ (a t : ℕ) (h : a < t) (b : t ≤ 1000000) where
   signed-below = toZ-ofZ {w = w64} below-fits ∙ negated ∙ sym (sub-below a t h)
 
 -- a score passed on as a word
-sub-fits : (a t : ℕ) → a ≤ 1000000 → t ≤ 1000000 → SFits w64 (subℕ a t)
+pub sub-fits : (a t : ℕ) → a ≤ 1000000 → t ≤ 1000000 → SFits w64 (subℕ a t)
 sub-fits a t h b = by-side (decLt a t)
   where
     by-side : Dec (a < t) → SFits w64 (subℕ a t)

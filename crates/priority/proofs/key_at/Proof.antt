@@ -1,0 +1,25 @@
+-- What `key_at` leaves to be shown: both boards' features are bounded.
+use mathlib.Core.Path.{sym, subst}
+use Rattle.board.specs.Record.{shown}
+use Rattle.score.specs.Features.{Bounded}
+use Rattle.score.proofs.Bounds.{bounded}
+use Rattle.priority.proofs.After.{key-is}
+use borrow.Author.Needs.{needs}
+use Rattle.priority.proofs.key_at.Statement.{statement}
+use Rattle.priority.proofs.key_at.Tie as tie
+
+features-after-requires : tie.Need-features-after-requires
+features-after-requires c κs = search needs
+
+way-of-requires : tie.Need-way-of-requires
+way-of-requires c κs = search needs
+
+priority-key-requires : tie.Need-priority-key-requires
+priority-key-requires c κs = (subst Bounded (sym (c .before .before .pre .1)) (bounded (c .before .before .args .b) (c .before .before .pre .0 .sound)), c .before .features-after .ensures .1)
+
+returns : tie.Need-returns
+returns c = key-is (shown (c .before .before .before .args .b)) (c .before .before .before .args .m) (c .before .way-of .ensures) (c .before .before .before .pre .1) (c .before .before .features-after .ensures .0) (c .priority-key .ensures)
+
+pub key-at-spec : {M : Type 1} → statement M
+key-at-spec =
+    tie.close (tie.spec features-after-requires way-of-requires priority-key-requires returns)

@@ -1,0 +1,85 @@
+-- What `priority_adds` leaves to be shown: products and their sum.
+use native.Mathlib.Omega.{arith}
+use Rattle.priority.specs.Priority.{priorityAdds}
+use Rattle.priority.proofs.Sizes.{base-adds-most}
+use borrow.Author.Needs.{needs}
+use Rattle.priority.proofs.priority_adds.Statement.{statement}
+use Rattle.priority.proofs.priority_adds.Tie as tie
+
+base-adds-requires : tie.Need-base-adds-requires
+base-adds-requires c κs = search needs
+
+mul-home : tie.Need-mul-home
+mul-home c = search needs
+
+mul-options : tie.Need-mul-options
+mul-options c = search needs
+
+mul-empty : tie.Need-mul-empty
+mul-empty c = search needs
+
+mul-used : tie.Need-mul-used
+mul-used c = search needs
+
+mul-run : tie.Need-mul-run
+mul-run c = search needs
+
+mul-low : tie.Need-mul-low
+mul-low c = search needs
+
+mul-ahead : tie.Need-mul-ahead
+mul-ahead c = search needs
+
+mul-columns : tie.Need-mul-columns
+mul-columns c = search needs
+
+add-result : tie.Need-add-result
+add-result c = omega (arith, c .before .before .before .before .before .before .before .before .base-adds .ensures, base-adds-most (c .before .before .before .before .before .before .before .before .before .args .way))
+
+add-result-2 : tie.Need-add-result-2
+add-result-2 c = omega (arith, c .before .before .before .before .before .before .before .before .base-adds .ensures, base-adds-most (c .before .before .before .before .before .before .before .before .before .args .way))
+
+add-result-3 : tie.Need-add-result-3
+add-result-3 c = omega (arith, c .before .before .before .before .before .before .before .before .base-adds .ensures, base-adds-most (c .before .before .before .before .before .before .before .before .before .args .way))
+
+add-result-4 : tie.Need-add-result-4
+add-result-4 c = omega (arith, c .before .before .before .before .before .before .before .before .base-adds .ensures, base-adds-most (c .before .before .before .before .before .before .before .before .before .args .way))
+
+add-result-5 : tie.Need-add-result-5
+add-result-5 c = omega (arith, c .before .before .before .before .before .before .before .before .base-adds .ensures, base-adds-most (c .before .before .before .before .before .before .before .before .before .args .way))
+
+add-result-6 : tie.Need-add-result-6
+add-result-6 c = omega (arith, c .before .before .before .before .before .before .before .before .base-adds .ensures, base-adds-most (c .before .before .before .before .before .before .before .before .before .args .way))
+
+add-result-7 : tie.Need-add-result-7
+add-result-7 c = omega (arith, c .before .before .before .before .before .before .before .before .base-adds .ensures, base-adds-most (c .before .before .before .before .before .before .before .before .before .args .way))
+
+add-result-8 : tie.Need-add-result-8
+add-result-8 c = omega (arith, c .before .before .before .before .before .before .before .before .base-adds .ensures, base-adds-most (c .before .before .before .before .before .before .before .before .before .args .way))
+
+returns : tie.Need-returns
+unfolding priorityAdds
+returns c = rw (c .before .before .before .before .before .before .before .before .base-adds .ensures)
+
+pub priority-adds-spec : {M : Type 1} → statement M
+priority-adds-spec =
+    tie.close
+    (tie.spec
+    base-adds-requires
+    mul-home
+    mul-options
+    mul-empty
+    mul-used
+    mul-run
+    mul-low
+    mul-ahead
+    mul-columns
+    add-result
+    add-result-2
+    add-result-3
+    add-result-4
+    add-result-5
+    add-result-6
+    add-result-7
+    add-result-8
+    returns)

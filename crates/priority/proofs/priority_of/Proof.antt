@@ -1,0 +1,90 @@
+-- What `priority_of` leaves to be shown: the board's refusals, then the move's.
+use mathlib.Core.Path.{sym, ap, _∙_}
+use mathlib.Core.Bool.{true, false}
+use lib.IntN.{ℤ}
+use Rattle.card.specs.Answer.{given}
+use Rattle.board.specs.Record.{shown}
+use Rattle.board.proofs.Soundness.{sound}
+use Rattle.questions.proofs.Asking.{after-no, after-yes, verdict-fine}
+use Rattle.moves.specs.Record.{sayableTold}
+use Rattle.play.specs.Change.{Ready}
+use Rattle.score.proofs.Signs.{passed-on}
+use Rattle.priority.specs.Asked.{priorityAsked}
+use Rattle.priority.proofs.Asking.{asked-none, asked-move}
+use Rattle.priority.proofs.After.{priority-fits}
+use borrow.Author.Needs.{needs}
+use Rattle.priority.proofs.priority_of.Statement.{statement}
+use Rattle.priority.proofs.priority_of.Tie as tie
+
+inspect-requires : tie.Need-inspect-requires
+inspect-requires c κs = search needs
+
+enum-known-why : tie.Need-enum-known-why
+enum-known-why c = search needs
+
+returns : tie.Need-returns
+unfolding priorityAsked
+returns c = after-no _ (c .before .before .before .inspect .ensures) (c .before .why .given .1)
+
+enum-told : tie.Need-enum-told
+enum-told c = search needs
+
+decode-requires : tie.Need-decode-requires
+decode-requires c κs = search needs
+
+enum-known-m : tie.Need-enum-known-m
+enum-known-m c = search needs
+
+enum-told-2 : tie.Need-enum-told-2
+enum-told-2 c = search needs
+
+returns-2 : tie.Need-returns-2
+unfolding priorityAsked
+returns-2 c =
+    sym (after-yes _ (c .before .before .before .before .before .inspect .ensures) (c .before .before .before .enum-told .given .1) ∙ asked-none (shown (c .before .before .before .before .before .before .before .before .before .before .before .before .args .t1)) (c .before .before .before .before .before .before .before .before .before .before .before .before .args .bytes .now) (c .before .before .decode .ensures .0) (c .enum-told2 .given .1))
+
+allowed-at-requires : tie.Need-allowed-at-requires
+allowed-at-requires c κs =
+    (sound (c .before .before .before .before .before .before .before .before .before .before .before .before .before .args .t1) (record { four = search needs; piles = search needs; eight = search needs; full = search needs }) (verdict-fine (c .before .before .before .before .before .before .inspect .ensures) (c .before .before .before .before .enum-told .given .1)), ap sayableTold (sym (c .before .m .given .1)) ∙ c .before .before .before .decode .ensures .1)
+
+local-priority-requires : tie.Need-local-priority-requires
+local-priority-requires c κs =
+    record {
+      sound = sound (c .before .before .before .before .before .before .before .before .before .before .before .before .before .before .before .args .t1) (record { four = search needs; piles = search needs; eight = search needs; full = search needs }) (verdict-fine (c .before .before .before .before .before .before .before .before .inspect .ensures) (c .before .before .before .before .before .before .enum-told .given .1));
+      said = ap sayableTold (sym (c .before .before .before .m .given .1)) ∙ c .before .before .before .before .before .decode .ensures .1;
+      allows = sym (c .before .allowed-at .ensures) ∙ c .if1 .taken;
+    }
+
+returns-3 : tie.Need-returns-3
+unfolding priorityAsked
+returns-3 c =
+    let ready : Ready (c .before .before .before .before .before .before .before .before .before .before .before .before .before .before .before .before .args .t1) (c .before .before .before .before .m .given .0 .0) =
+    record {
+      sound = sound (c .before .before .before .before .before .before .before .before .before .before .before .before .before .before .before .before .args .t1) (record { four = search needs; piles = search needs; eight = search needs; full = search needs }) (verdict-fine (c .before .before .before .before .before .before .before .before .before .inspect .ensures) (c .before .before .before .before .before .before .before .enum-told .given .1));
+      said = ap sayableTold (sym (c .before .before .before .before .m .given .1)) ∙ c .before .before .before .before .before .before .decode .ensures .1;
+      allows = sym (c .before .before .allowed-at .ensures) ∙ c .before .if1 .taken;
+    } in
+    ap (λ (z : ℤ). given z) (passed-on (priority-fits ready) (c .local-priority .ensures))
+    ∙ sym (after-yes _ (c .before .before .before .before .before .before .before .before .before .inspect .ensures) (c .before .before .before .before .before .before .before .enum-told .given .1) ∙ asked-move (shown (c .before .before .before .before .before .before .before .before .before .before .before .before .before .before .before .before .args .t1)) (c .before .before .before .before .before .before .before .before .before .before .before .before .before .before .before .before .args .bytes .now) (c .before .before .before .before .before .before .decode .ensures .0) (c .before .before .before .before .m .given .0 .0) (c .before .before .before .before .m .given .1) true (sym (c .before .before .allowed-at .ensures) ∙ c .before .if1 .taken))
+
+returns-4 : tie.Need-returns-4
+unfolding priorityAsked
+returns-4 c =
+    sym (after-yes _ (c .before .before .before .before .before .before .before .before .inspect .ensures) (c .before .before .before .before .before .before .enum-told .given .1) ∙ asked-move (shown (c .before .before .before .before .before .before .before .before .before .before .before .before .before .before .before .args .t1)) (c .before .before .before .before .before .before .before .before .before .before .before .before .before .before .before .args .bytes .now) (c .before .before .before .before .before .decode .ensures .0) (c .before .before .before .m .given .0 .0) (c .before .before .before .m .given .1) false (sym (c .before .allowed-at .ensures) ∙ c .if1 .left))
+
+pub priority-of-spec : {M : Type 1} → statement M
+priority-of-spec =
+    tie.close
+    (tie.spec
+    inspect-requires
+    enum-known-why
+    returns
+    enum-told
+    decode-requires
+    enum-known-m
+    enum-told-2
+    returns-2
+    allowed-at-requires
+    local-priority-requires
+    returns-3
+    returns-4)

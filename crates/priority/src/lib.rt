@@ -1,0 +1,180 @@
+// The local priority of a move (after freecell/solver.rs, `local_priority`).
+ghost use mathlib.Core.Path.{_≡_};
+ghost use Rattle.board.specs.Record.{shown};
+ghost use Rattle.moves.specs.Play.{afterMove};
+ghost use Rattle.play.specs.Change.{Ready};
+ghost use Rattle.score.specs.Asked.{scoreTold};
+ghost use Rattle.priority.specs.Asked.{priorityAsked};
+ghost use Rattle.generate.specs.Found.{wayOf};
+ghost use Rattle.score.specs.Features.{Bounded, featuresOf};
+ghost use Rattle.priority.specs.Priority.{baseAdds, baseTakes, priorityAdds, priorityTakes, priorityKey, priorityOn};
+use board::Board;
+use board::Examined;
+use board::Refusal;
+use board::judge::inspect;
+use generate::Way;
+use moves::Decoded;
+use moves::Move;
+use score::Features;
+use score::ScoreAnswer;
+
+const PRIORITY_FOUNDATION_GAIN_WEIGHT: usize = 1200;
+
+const PRIORITY_OPTIONS_GAIN_WEIGHT: usize = 180;
+
+const PRIORITY_EMPTY_COL_GAIN_WEIGHT: usize = 220;
+
+const PRIORITY_FREE_FREED_WEIGHT: usize = 100;
+
+const PRIORITY_RUN_GAIN_WEIGHT: usize = 20;
+
+const PRIORITY_LOW_UNBLOCK_WEIGHT: usize = 160;
+
+const LOOKAHEAD_FOUNDATION_OPTIONS_WEIGHT: usize = 90;
+
+const LOOKAHEAD_EMPTY_COLUMNS_WEIGHT: usize = 25;
+
+const LOOKAHEAD_FREE_USED_PENALTY: usize = 12;
+
+const LOOKAHEAD_LOW_BLOCKED_PENALTY: usize = 8;
+
+// The kind of a move.
+fn way_of(m: Move) -> Way
+    ensures { λ r. ⌜ r ≡ wayOf m ⌝ }
+{
+    match m {
+        Move::TableauToTableau { .. } => Way::ColumnToColumn,
+        Move::TableauToFoundation { .. } => Way::ColumnToHome,
+        Move::TableauToFreeCell { .. } => Way::ColumnToCell,
+        Move::FreeCellToTableau { .. } => Way::CellToColumn,
+        Move::FreeCellToFoundation { .. } => Way::CellToHome,
+        Move::FoundationToTableau { .. } => Way::HomeToColumn,
+    }
+}
+
+fn base_adds(way: Way) -> usize
+    ensures { λ r. ⌜ r ≡ baseAdds way ⌝ }
+{
+    match way {
+        Way::ColumnToColumn => 220,
+        Way::ColumnToHome => 900,
+        Way::ColumnToCell => 0,
+        Way::CellToColumn => 260,
+        Way::CellToHome => 900,
+        Way::HomeToColumn => 0,
+    }
+}
+
+fn base_takes(way: Way) -> usize
+    ensures { λ r. ⌜ r ≡ baseTakes way ⌝ }
+{
+    match way {
+        Way::ColumnToColumn => 0,
+        Way::ColumnToHome => 0,
+        Way::ColumnToCell => 60,
+        Way::CellToColumn => 0,
+        Way::CellToHome => 0,
+        Way::HomeToColumn => 250,
+    }
+}
+
+// What adds to a priority.
+fn priority_adds(way: Way, before: Features, after: Features) -> usize
+    requires { ⌜ Bounded before ⌝ }
+    requires { ⌜ Bounded after ⌝ }
+    ensures { λ r. ⌜ r ≡ priorityAdds way before after ⌝ }
+{
+    let base = base_adds(way);
+    let home = after.home * PRIORITY_FOUNDATION_GAIN_WEIGHT;
+    let options = after.immediate * PRIORITY_OPTIONS_GAIN_WEIGHT;
+    let empty = after.empty * PRIORITY_EMPTY_COL_GAIN_WEIGHT;
+    let used = after.used * PRIORITY_FREE_FREED_WEIGHT;
+    let run = after.longest * PRIORITY_RUN_GAIN_WEIGHT;
+    let low = before.blocked * PRIORITY_LOW_UNBLOCK_WEIGHT;
+    let ahead = after.immediate * LOOKAHEAD_FOUNDATION_OPTIONS_WEIGHT;
+    let columns = after.empty * LOOKAHEAD_EMPTY_COLUMNS_WEIGHT;
+    base + home + options + empty + used + run + low + ahead + columns
+}
+
+// What takes away from it.
+fn priority_takes(way: Way, before: Features, after: Features) -> usize
+    requires { ⌜ Bounded before ⌝ }
+    requires { ⌜ Bounded after ⌝ }
+    ensures { λ r. ⌜ r ≡ priorityTakes way before after ⌝ }
+{
+    let base = base_takes(way);
+    let home = before.home * PRIORITY_FOUNDATION_GAIN_WEIGHT;
+    let options = before.immediate * PRIORITY_OPTIONS_GAIN_WEIGHT;
+    let empty = before.empty * PRIORITY_EMPTY_COL_GAIN_WEIGHT;
+    let used = before.used * PRIORITY_FREE_FREED_WEIGHT;
+    let run = before.longest * PRIORITY_RUN_GAIN_WEIGHT;
+    let low = after.blocked * PRIORITY_LOW_UNBLOCK_WEIGHT;
+    let ahead = after.used * LOOKAHEAD_FREE_USED_PENALTY;
+    let blocked = after.blocked * LOOKAHEAD_LOW_BLOCKED_PENALTY;
+    base + home + options + empty + used + run + low + ahead + blocked
+}
+
+// A priority raised to a natural number.
+fn priority_key(way: Way, before: Features, after: Features) -> usize
+    requires { ⌜ Bounded before ⌝ }
+    requires { ⌜ Bounded after ⌝ }
+    ensures { λ r. ⌜ r ≡ priorityKey way before after ⌝ }
+{
+    let raised = priority_adds(way, before, after) + 157566;
+    raised - priority_takes(way, before, after)
+}
+
+// The features of the board after a move that can be made.
+pub fn features_after(b: Board, m: Move) -> Features
+    requires { ⌜ Ready b m ⌝ }
+    ensures { λ r. ⌜ r ≡ featuresOf (afterMove (shown b) m) ⌝ }
+    ensures { λ r. ⌜ Bounded r ⌝ }
+{
+    let after = play::apply_at(b, m);
+    score::measure::compute_features(
+        &after.cells,
+        &after.foundation,
+        &after.counts,
+        &after.tableau,
+    )
+}
+
+// The raised priority of a move that can be made.
+pub fn key_at(b: Board, before: Features, m: Move) -> usize
+    requires { ⌜ Ready b m ⌝ }
+    requires { ⌜ before ≡ featuresOf (shown b) ⌝ }
+    ensures { λ r. ⌜ r ≡ priorityKey (wayOf m) (featuresOf (shown b)) (featuresOf (afterMove (shown b) m)) ⌝ }
+{
+    let after = features_after(b, m);
+    priority_key(way_of(m), before, after)
+}
+
+// The local priority of a move that can be made.
+pub fn local_priority(b: Board, m: Move) -> i64
+    requires { ⌜ Ready b m ⌝ }
+    ensures { λ r. ⌜ r ≡ priorityOn (shown b) m ⌝ }
+{
+    let before = score::measure::compute_features(&b.cells, &b.foundation, &b.counts, &b.tableau);
+    let after = features_after(b, m);
+    let way = way_of(m);
+    score::scores::signed(
+        priority_adds(way, before, after),
+        priority_takes(way, before, after),
+    )
+}
+
+// 12 to 15, 30 as one move is refused, or the local priority of a move.
+pub fn priority_of(b: Board, bytes: &[u8]) -> ScoreAnswer
+    ensures { λ r. ⌜ scoreTold r ≡ priorityAsked b (now (bytes .entry)) ⌝ }
+{
+    if let Examined::Refused(why) = inspect(&b.cells, &b.foundation, &b.counts, &b.tableau) {
+        return ScoreAnswer::Refused(why);
+    }
+    let Decoded::Is(m) = moves::decode(bytes) else {
+        return ScoreAnswer::Refused(Refusal::OutOfRange);
+    };
+    if play::allow::allowed_at(b, m) {
+        return ScoreAnswer::Score(local_priority(b, m));
+    }
+    ScoreAnswer::Refused(Refusal::OutOfRange)
+}
