@@ -1,8 +1,9 @@
 #!/bin/sh
 # Makes what the comparing programs are held to, by running the original Rust: compare/make.sh SOURCES
 # SOURCES is the original's folder solver-core-rs/src (it has common/ and freecell/). Needs rustc and nothing else.
-# Writes stdin and stdout of crates/oracle_boards (boards.rs), oracle_moves (moves.rs) and oracle_signatures
-# (signatures.rs, with the published hashes of fnv-vectors.txt); the same sources always give the same bytes.
+# Writes stdin and stdout of crates/oracle_boards (boards.rs), oracle_moves (moves.rs), oracle_signatures (signatures.rs,
+# with the published hashes of fnv-vectors.txt) and oracle_scores (scores.rs, with hooks.rs added to the copy of solver.rs);
+# the same sources always give the same bytes.
 set -eu
 if [ $# -ne 1 ]; then
     echo "usage: $0 SOURCES" >&2
@@ -18,7 +19,8 @@ for file in board solver weights; do
     cat "$1/freecell/$file.rs" > "$room/freecell/$file.rs"
 done
 cat "$here/shared.rs" > "$room/shared.rs"
-for driver in boards moves signatures; do
+cat "$here/hooks.rs" >> "$room/freecell/solver.rs"
+for driver in boards moves signatures scores; do
     cat "$here/$driver.rs" > "$room/$driver.rs"
     rustc --edition 2021 -O --cap-lints allow -o "$room/$driver" "$room/$driver.rs"
     "$room/$driver" "$crates/oracle_$driver/stdin" "$crates/oracle_$driver/stdout" "$here/fnv-vectors.txt"

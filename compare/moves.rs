@@ -28,7 +28,8 @@ use common::card::{Card, Suit};
 use freecell::board::{FreeCellBoard, FreeCellMove};
 use freecell::solver::deal;
 use shared::{
-    code, code_or_none, drawn_move, image, is_long, made_up, moves_by_kind, won_board, Draws,
+    board_text, code, code_or_none, drawn_move, hex, image, is_long, made_up, moved_text,
+    moves_by_kind, record, won_board, Draws,
 };
 
 const ROOM: usize = 4200;
@@ -40,45 +41,6 @@ fn card_of(code: u8) -> Option<Card> {
         return None;
     }
     Suit::from_u8(code % 16).map(|suit| Card::new(suit, value))
-}
-
-// Document 01's record of a move.
-fn record(step: &FreeCellMove) -> [u8; 5] {
-    match step {
-        FreeCellMove::TableauToTableau {
-            source,
-            destination,
-            cards,
-        } => [
-            1,
-            *source as u8,
-            *destination as u8,
-            cards.len() as u8,
-            code(cards[0]),
-        ],
-        FreeCellMove::TableauToFoundation { source, card } => {
-            [2, *source as u8, card.suit as u8, 1, code(*card)]
-        }
-        FreeCellMove::TableauToFreeCell {
-            source,
-            card,
-            cell_index,
-        } => [3, *source as u8, *cell_index as u8, 1, code(*card)],
-        FreeCellMove::FreeCellToTableau {
-            cell_index,
-            destination,
-            card,
-        } => [4, *cell_index as u8, *destination as u8, 1, code(*card)],
-        FreeCellMove::FreeCellToFoundation { cell_index, card } => {
-            [5, *cell_index as u8, card.suit as u8, 1, code(*card)]
-        }
-        FreeCellMove::FoundationToTableau {
-            suit,
-            destination,
-            card,
-        } => [6, *suit as u8, *destination as u8, 1, code(*card)],
-        FreeCellMove::Deal { .. } => unreachable!(),
-    }
 }
 
 // The cards of a run of so many from a column, the deepest being the named one; too many give cards that lie nowhere.
@@ -132,35 +94,6 @@ fn move_of(board: &FreeCellBoard, bytes: &[u8]) -> Option<FreeCellMove> {
 
 fn after(board: &FreeCellBoard, bytes: &[u8]) -> Option<FreeCellBoard> {
     move_of(board, bytes)?.apply(board)
-}
-
-fn hex(bytes: &[u8]) -> String {
-    bytes.iter().map(|byte| format!("{byte:02x}")).collect()
-}
-
-// Cells, foundation counts, columns, and how many bytes of unused room are not zero.
-fn board_text(board: &FreeCellBoard) -> String {
-    let cells = board.free_cells.map(code_or_none);
-    let piles: Vec<u8> = board
-        .foundation
-        .iter()
-        .map(|pile| pile.len() as u8)
-        .collect();
-    let columns: String = board
-        .tableau
-        .iter()
-        .map(|column| hex(&column.iter().map(|&card| code(card)).collect::<Vec<u8>>()) + "|")
-        .collect();
-    format!("{} {} {} 0", hex(&cells), hex(&piles), columns)
-}
-
-// The board after moves, or that it is the given one.
-fn moved_text(given: &FreeCellBoard, board: &FreeCellBoard) -> String {
-    if image(board) == image(given) {
-        "=".to_string()
-    } else {
-        board_text(board)
-    }
 }
 
 fn limits(board: &FreeCellBoard) -> String {

@@ -119,3 +119,71 @@ pub fn made_up(draws: &mut Draws, home: usize, held: usize, most: usize) -> Free
 pub fn is_long(board: &FreeCellBoard) -> bool {
     board.tableau.iter().any(|column| column.len() > 7)
 }
+
+// Document 01's record of a move.
+pub fn record(step: &FreeCellMove) -> [u8; 5] {
+    match step {
+        FreeCellMove::TableauToTableau {
+            source,
+            destination,
+            cards,
+        } => [
+            1,
+            *source as u8,
+            *destination as u8,
+            cards.len() as u8,
+            code(cards[0]),
+        ],
+        FreeCellMove::TableauToFoundation { source, card } => {
+            [2, *source as u8, card.suit as u8, 1, code(*card)]
+        }
+        FreeCellMove::TableauToFreeCell {
+            source,
+            card,
+            cell_index,
+        } => [3, *source as u8, *cell_index as u8, 1, code(*card)],
+        FreeCellMove::FreeCellToTableau {
+            cell_index,
+            destination,
+            card,
+        } => [4, *cell_index as u8, *destination as u8, 1, code(*card)],
+        FreeCellMove::FreeCellToFoundation { cell_index, card } => {
+            [5, *cell_index as u8, card.suit as u8, 1, code(*card)]
+        }
+        FreeCellMove::FoundationToTableau {
+            suit,
+            destination,
+            card,
+        } => [6, *suit as u8, *destination as u8, 1, code(*card)],
+        FreeCellMove::Deal { .. } => unreachable!(),
+    }
+}
+
+pub fn hex(bytes: &[u8]) -> String {
+    bytes.iter().map(|byte| format!("{byte:02x}")).collect()
+}
+
+// Cells, foundation counts, columns, and how many bytes of unused room are not zero.
+pub fn board_text(board: &FreeCellBoard) -> String {
+    let cells = board.free_cells.map(code_or_none);
+    let piles: Vec<u8> = board
+        .foundation
+        .iter()
+        .map(|pile| pile.len() as u8)
+        .collect();
+    let columns: String = board
+        .tableau
+        .iter()
+        .map(|column| hex(&column.iter().map(|&card| code(card)).collect::<Vec<u8>>()) + "|")
+        .collect();
+    format!("{} {} {} 0", hex(&cells), hex(&piles), columns)
+}
+
+// The board after moves, or that it is the given one.
+pub fn moved_text(given: &FreeCellBoard, board: &FreeCellBoard) -> String {
+    if image(board) == image(given) {
+        "=".to_string()
+    } else {
+        board_text(board)
+    }
+}
