@@ -1,10 +1,9 @@
 -- The priority of the move that some bytes ask for.
 use mathlib.Core.Path.{_≡_, sym, ap, _∙_}
-use mathlib.Core.Bool.{Bool, true, false}
+use mathlib.Core.Bool.{Bool}
 use mathlib.Core.List.{List}
 use Prim.Native.Nat.{ℕ}
-use lib.IntN.{ℤ}
-use Rattle.card.specs.Answer.{Answer, given, refused, unless}
+use Rattle.card.specs.Answer.{given, refused, unless}
 use Rattle.board.specs.Table.{Table}
 use Rattle.moves.specs.Record.{moveAsked, moveTold}
 use Rattle.moves.specs.Play.{allowed}

@@ -1,6 +1,6 @@
 -- How large the parts of a priority are, and that the raised priorities compare as the priorities do.
 use mathlib.Core.Path.{_≡_, ap₂, _∙_}
-use Prim.Native.Nat.{ℕ, _≤_}
+use Prim.Native.Nat.{_≤_}
 use native.Mathlib.Omega.{arith}
 use lib.Dec.{leb}
 use lib.IntN.{subℕ}
