@@ -324,11 +324,11 @@ fn main() {
             sheet.item(board, &records, &list);
         }
     }
-    // lists of 200 moves and of 201, to and fro between cells
+    // a game of 201 moves: its first 200 are a list, all of them are none
     let board = &short[1];
-    let to_and_fro = game(&mut draws, board, 201);
-    sheet.item(board, &[], &to_and_fro[..1000]);
-    sheet.item(board, &[], &to_and_fro);
+    let long_game = game(&mut draws, board, 201);
+    sheet.item(board, &[], &long_game[..1000]);
+    sheet.item(board, &[], &long_game);
     eprintln!(
         "{} bytes of input, {} boards, {} of them with a column over seven",
         sheet.input.len(),
