@@ -5,7 +5,7 @@ use Rattle.card.specs.Pack.{cardAt}
 use Rattle.card.specs.Words.{listed, concat}
 use Rattle.board.specs.Table.{pile}
 use Rattle.signature.specs.Fnv.{xorDigits, fnvStep, fnvFrom, fnv}
-use Rattle.signature.specs.Rising.{placed, rising}
+use Rattle.order.specs.Rising.{placed, rising}
 use Rattle.signature.specs.Signed.{homeWords, columnHashes, wordsOf, signed, signatureOf}
 
 -- no octet: cbf29ce484222325

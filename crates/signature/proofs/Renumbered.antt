@@ -11,9 +11,9 @@ use Rattle.card.proofs.Words.{occurs-listed}
 use Rattle.card.proofs.Sums.{sum-same, sum-one, sum-swap}
 use Rattle.board.specs.Table.{Table}
 use Rattle.signature.specs.Fnv.{fnv}
-use Rattle.signature.specs.Rising.{rising}
+use Rattle.order.specs.Rising.{rising}
 use Rattle.signature.specs.Signed.{columnHashes, wordsOf, signed, signatureOf, Renumbers, renumbered}
-use Rattle.signature.proofs.Counted.{same-rising}
+use Rattle.order.proofs.Counted.{same-rising}
 use Rattle.signature.proofs.Hashing.{listed-all}
 use Rattle.signature.proofs.Columns.{hashes-are}
 

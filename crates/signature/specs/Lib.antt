@@ -1,4 +1,3 @@
 -- Read these in this order.
 pub mod Fnv
-pub mod Rising
 pub mod Signed

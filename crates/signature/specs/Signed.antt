@@ -11,7 +11,7 @@ use Rattle.board.specs.Record.{examined, shown}
 use Rattle.board.specs.Refusal.{numberOf}
 use Rattle.board.specs.declared.Board.{Board}
 use Rattle.signature.specs.Fnv.{fnv}
-use Rattle.signature.specs.Rising.{rising}
+use Rattle.order.specs.Rising.{rising}
 use Rattle.signature.specs.declared.SignatureAnswer.{SignatureAnswer}
 use Rattle.signature.specs.declared.SignatureAnswer.the-variants.{Signature, Refused}
 

@@ -13,8 +13,6 @@ use board::Examined;
 use board::Refusal;
 use board::judge::inspect;
 
-pub mod order;
-
 pub enum SignatureAnswer {
     Signature(u64),
     Refused(Refusal),
