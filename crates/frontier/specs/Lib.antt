@@ -1,0 +1,3 @@
+pub mod Heap
+pub mod Inner
+pub mod Packing
