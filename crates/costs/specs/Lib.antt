@@ -1,0 +1,4 @@
+pub mod Entries
+pub mod CostIn
+pub mod Table
+pub mod Promises
