@@ -1,1 +1,73 @@
-// The candidates of a board in order, and their children: the definitions are in specs/; the code comes on top of them.
+// What the search tries on a board, in order, and the children that it makes (after freecell/solver.rs, `find_all_moves` and
+// `expand_moves`).
+ghost use mathlib.Core.Path.{_≡_};
+ghost use Prim.Native.Nat.{_≤_};
+ghost use lib.ListN.{length};
+ghost use Rattle.board.specs.Record.{shown};
+ghost use Rattle.board.specs.Inner.{Sound};
+ghost use Rattle.play.specs.Change.{Ready};
+ghost use Rattle.generate.specs.Asked.{Adds, Finds};
+ghost use Rattle.candidates.specs.Candidates.{candidates};
+ghost use Rattle.candidates.specs.Inner.{Bears};
+use board::Board;
+use board::Examined;
+use board::Refusal;
+use board::judge::inspect;
+use moves::Move;
+use questions::CountAnswer;
+
+pub mod list;
+pub mod ranks;
+
+// What is asked of a move before it is tried.
+pub enum Test {
+    Safe,
+    Unsafe,
+    Worthwhile,
+}
+
+// The board that a candidate and the chain after it lead to, and how many moves that is.
+pub struct Child {
+    pub moves: usize,
+    pub board: Board,
+}
+
+// The candidates of a well formed board, in order.
+pub fn candidates_at(b: Board, out: &mut [u8]) -> usize
+    requires { ⌜ Sound b ⌝ }
+    requires { ⌜ 4180 ≤ length (now out) ⌝ }
+    ensures { λ r. ⌜ Adds (now (out .entry)) (now (out .exit)) 0 r (candidates (shown b)) ⌝ }
+{
+    let before = score::measure::compute_features(&b.cells, &b.foundation, &b.counts, &b.tableau);
+    let mut list = [0u8; 4180];
+    let mut keys = [0u64; 836];
+    let n = list::tried_at(b, before, &mut list);
+    ranks::rank_all(b, before, &list, n, &mut keys);
+    ranks::emit(&list, &keys, n, out)
+}
+
+// The child that a candidate makes.
+pub fn child_at(b: Board, m: Move) -> Child
+    requires { ⌜ Ready b m ⌝ }
+    ensures { λ r. ⌜ Bears b m (r .moves) (r .board) ⌝ }
+    ensures { λ r. ⌜ Sound (r .board) ⌝ }
+{
+    let next = play::apply_at(b, m);
+    let after = safe::chain_at(next);
+    let moves = after.moves + 1;
+    let board = after.board;
+    Child { moves, board }
+}
+
+// 12 to 15, 21, or the candidates of a board in order.
+pub fn candidates_of(b: Board, out: &mut [u8]) -> CountAnswer
+    ensures { λ r. ⌜ Finds b (candidates (shown b)) (now (out .entry)) (now (out .exit)) r ⌝ }
+{
+    if let Examined::Refused(why) = inspect(&b.cells, &b.foundation, &b.counts, &b.tableau) {
+        return CountAnswer::Refused(why);
+    }
+    if out.len() < 4180 {
+        return CountAnswer::Refused(Refusal::NoRoom);
+    }
+    CountAnswer::Count(candidates_at(b, out))
+}

@@ -1,4 +1,4 @@
--- What `find` answers: the record's refusals, then 21, then all moves of the kind.
+-- What a listing of moves answers: the record's refusals, then 21, then all of them.
 use mathlib.Core.Path.{_≡_, sym, ap, _∙_, subst}
 use mathlib.Core.List.{List, [], _∷_}
 use Prim.Native.Nat.{ℕ, _+_, _*_, _<_, _≤_}
@@ -9,16 +9,17 @@ use denote.Enum.Declared.{tagOf}
 use lib.ListN.{length}
 use Rattle.card.specs.Answer.{Answer, given, refused}
 use Rattle.board.specs.Table.{Table}
-use Rattle.board.specs.Record.{examined, shown}
+use Rattle.board.specs.Record.{examined}
 use Rattle.board.specs.Refusal.{numberOf, examinedTold}
 use Rattle.board.specs.declared.Board.{Board}
 use Rattle.board.specs.declared.Refusal.{Refusal}
 use Rattle.board.specs.declared.Examined.{Examined}
 use Rattle.board.specs.declared.Examined.the-variants as board
+use Rattle.moves.specs.declared.Move.{Move}
 use Rattle.questions.specs.declared.CountAnswer.the-variants.{Count, Refused}
 use Rattle.questions.proofs.Asking.{after-no, after-yes}
 use Rattle.play.proofs.Single.{no-run}
-use Rattle.generate.specs.Found.{foundFrom, found}
+use Rattle.generate.specs.Found.{foundFrom}
 use Rattle.generate.specs.Asked.{recordRoom, foundAsked, roomAfter, Finds, Adds}
 use Rattle.generate.specs.declared.Way.{Way}
 use Rattle.generate.specs.declared.Way.the-variants.{ColumnToColumn}
@@ -38,30 +39,30 @@ module _ (t : Table) (i : ℕ) {w v : Way} (e : w ≡ v) where
 
 -- ---- the answer
 
-enough : (b : Board) (w : Way) (lent : ℕ) {e : Examined} → examinedTold e ≡ examined b → e ≡ board.WellFormed → recordRoom ≤ lent
-    → foundAsked b w lent ≡ given (length (found (shown b) w))
+enough : (b : Board) (ms : List Move) (lent : ℕ) {e : Examined} → examinedTold e ≡ examined b → e ≡ board.WellFormed → recordRoom ≤ lent
+    → foundAsked b ms lent ≡ given (length ms)
 unfolding foundAsked
-enough b w lent p q h = after-yes _ p q ∙ rw (le-leb recordRoom lent h)
+enough b ms lent p q h = after-yes _ p q ∙ rw (le-leb recordRoom lent h)
 
-module _ {b : Board} {w : Way} {old : List ℕ} where
-  refuses : {why : Refusal} → refused (numberOf why) ≡ foundAsked b w (length old) → Finds b w old old (Refused why)
-  refuses q = record { told = q; room = ap (λ (a : Answer ℕ). roomAfter a old (found (shown b) w)) q }
+module _ {b : Board} {ms : List Move} {old : List ℕ} where
+  refuses : {why : Refusal} → refused (numberOf why) ≡ foundAsked b ms (length old) → Finds b ms old old (Refused why)
+  refuses q = record { told = q; room = ap (λ (a : Answer ℕ). roomAfter a old ms) q }
 
-  pub finds-no-board : {e : Examined} {why : Refusal} → examinedTold e ≡ examined b → e ≡ board.Refused why → Finds b w old old (Refused why)
+  pub finds-no-board : {e : Examined} {why : Refusal} → examinedTold e ≡ examined b → e ≡ board.Refused why → Finds b ms old old (Refused why)
   unfolding foundAsked
   finds-no-board p q = refuses (after-no _ p q)
 
   module _ {e : Examined} (p : examinedTold e ≡ examined b) (q : e ≡ board.WellFormed) where
-    pub finds-no-room : {why : Refusal} → 21 ≡ numberOf why → length old < recordRoom → Finds b w old old (Refused why)
+    pub finds-no-room : {why : Refusal} → 21 ≡ numberOf why → length old < recordRoom → Finds b ms old old (Refused why)
     unfolding foundAsked
     finds-no-room n h = refuses (ap refused (sym n) ∙ sym (after-yes _ p q ∙ rw (lt-leb recordRoom (length old) h)))
 
-    pub finds-all : {new : List ℕ} {made : ℕ} → recordRoom ≤ length old → Adds old new 0 made (found (shown b) w) → Finds b w old new (Count made)
+    pub finds-all : {new : List ℕ} {made : ℕ} → recordRoom ≤ length old → Adds old new 0 made ms → Finds b ms old new (Count made)
     finds-all {new} {made} h a =
         record {
-          told = ap (λ (n : ℕ). given n) (a .many ∙ zero-add (length (found (shown b) w))) ∙ sym answer;
-          room = a .room ∙ ap (λ (x : Answer ℕ). roomAfter x old (found (shown b) w)) (sym answer);
+          told = ap (λ (n : ℕ). given n) (a .many ∙ zero-add (length ms)) ∙ sym answer;
+          room = a .room ∙ ap (λ (x : Answer ℕ). roomAfter x old ms) (sym answer);
         }
       where
-        answer : foundAsked b w (length old) ≡ given (length (found (shown b) w))
-        answer = enough b w (length old) p q h
+        answer : foundAsked b ms (length old) ≡ given (length ms)
+        answer = enough b ms (length old) p q h

@@ -8,10 +8,9 @@ use Rattle.questions.specs.declared.CountAnswer.{CountAnswer}
 use Rattle.questions.proofs.Unique.{count-once}
 use Rattle.moves.specs.declared.Move.{Move}
 use Rattle.generate.specs.Asked.{Finds, Adds}
-use Rattle.generate.specs.declared.Way.{Way}
 
 -- of `find` and the six entry points
-pub find-once : {b : Board} {w : Way} {old new new′ : List ℕ} {r r′ : CountAnswer} → Finds b w old new r → Finds b w old new′ r′ → (new ≡ new′) × (r ≡ r′)
+pub find-once : {b : Board} {ms : List Move} {old new new′ : List ℕ} {r r′ : CountAnswer} → Finds b ms old new r → Finds b ms old new′ r′ → (new ≡ new′) × (r ≡ r′)
 find-once p q = (once (p .room) (q .room), count-once (p .told) (q .told))
 
 -- of `find_at` and the functions under it

@@ -398,7 +398,7 @@ pub fn find_at<'a>(
 
 // 12 to 15, 21, or all moves of a kind.
 pub fn find(b: Board, way: Way, out: &mut [u8]) -> CountAnswer
-    ensures { λ r. ⌜ Finds b way (now (out .entry)) (now (out .exit)) r ⌝ }
+    ensures { λ r. ⌜ Finds b (found (shown b) way) (now (out .entry)) (now (out .exit)) r ⌝ }
 {
     if let Examined::Refused(why) = inspect(&b.cells, &b.foundation, &b.counts, &b.tableau) {
         return CountAnswer::Refused(why);
@@ -411,37 +411,37 @@ pub fn find(b: Board, way: Way, out: &mut [u8]) -> CountAnswer
 }
 
 pub fn find_tableau_to_foundation(b: Board, out: &mut [u8]) -> CountAnswer
-    ensures { λ r. ⌜ Finds b ColumnToHome (now (out .entry)) (now (out .exit)) r ⌝ }
+    ensures { λ r. ⌜ Finds b (found (shown b) ColumnToHome) (now (out .entry)) (now (out .exit)) r ⌝ }
 {
     find(b, Way::ColumnToHome, out)
 }
 
 pub fn find_freecell_to_foundation(b: Board, out: &mut [u8]) -> CountAnswer
-    ensures { λ r. ⌜ Finds b CellToHome (now (out .entry)) (now (out .exit)) r ⌝ }
+    ensures { λ r. ⌜ Finds b (found (shown b) CellToHome) (now (out .entry)) (now (out .exit)) r ⌝ }
 {
     find(b, Way::CellToHome, out)
 }
 
 pub fn find_tableau_to_freecell(b: Board, out: &mut [u8]) -> CountAnswer
-    ensures { λ r. ⌜ Finds b ColumnToCell (now (out .entry)) (now (out .exit)) r ⌝ }
+    ensures { λ r. ⌜ Finds b (found (shown b) ColumnToCell) (now (out .entry)) (now (out .exit)) r ⌝ }
 {
     find(b, Way::ColumnToCell, out)
 }
 
 pub fn find_freecell_to_tableau(b: Board, out: &mut [u8]) -> CountAnswer
-    ensures { λ r. ⌜ Finds b CellToColumn (now (out .entry)) (now (out .exit)) r ⌝ }
+    ensures { λ r. ⌜ Finds b (found (shown b) CellToColumn) (now (out .entry)) (now (out .exit)) r ⌝ }
 {
     find(b, Way::CellToColumn, out)
 }
 
 pub fn find_tableau_to_tableau(b: Board, out: &mut [u8]) -> CountAnswer
-    ensures { λ r. ⌜ Finds b ColumnToColumn (now (out .entry)) (now (out .exit)) r ⌝ }
+    ensures { λ r. ⌜ Finds b (found (shown b) ColumnToColumn) (now (out .entry)) (now (out .exit)) r ⌝ }
 {
     find(b, Way::ColumnToColumn, out)
 }
 
 pub fn find_foundation_to_tableau(b: Board, out: &mut [u8]) -> CountAnswer
-    ensures { λ r. ⌜ Finds b HomeToColumn (now (out .entry)) (now (out .exit)) r ⌝ }
+    ensures { λ r. ⌜ Finds b (found (shown b) HomeToColumn) (now (out .entry)) (now (out .exit)) r ⌝ }
 {
     find(b, Way::HomeToColumn, out)
 }

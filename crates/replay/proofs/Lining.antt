@@ -20,7 +20,7 @@ use Rattle.replay.specs.Line.{Ending, oneMore, goOn, lineFrom, recordsIn
 
 -- ---- records in bytes
 
-listed-first : {A : Type 0} (f : ℕ → A) (n : ℕ) → listed (suc n) f ≡ f 0 ∷ listed n (λ k. f (suc k))
+pub listed-first : {A : Type 0} (f : ℕ → A) (n : ℕ) → listed (suc n) f ≡ f 0 ∷ listed n (λ k. f (suc k))
 unfolding listed
 listed-first f zero = refl
 listed-first f (suc n) = ap (λ (l : List _). l ++ (f (suc n) ∷ [])) (listed-first f n)

@@ -37,7 +37,7 @@ module _ (p : Move → Bool) where
   kept true m s t = refl
   kept false m s t = refl
 
-  chosen-append : (s t : List Move) → chosen p (s ++ t) ≡ chosen p s ++ chosen p t
+  pub chosen-append : (s t : List Move) → chosen p (s ++ t) ≡ chosen p s ++ chosen p t
   unfolding chosen
   chosen-append [] t = refl
   chosen-append (m ∷ s) t =

@@ -1,0 +1,12 @@
+-- Every promise of this crate allows one result only (`candidates_of`: generate's `find-once`; the functions that write: its
+-- `adds-once`; the others promise `r ≡ d`).
+use mathlib.Core.Path.{_≡_}
+use Prim.Native.Nat.{ℕ}
+use Rattle.card.proofs.Unique.{once}
+use Rattle.board.specs.declared.Board.{Board}
+use Rattle.moves.specs.declared.Move.{Move}
+use Rattle.candidates.specs.Inner.{Bears}
+
+-- of `child_at`
+pub child-once : {b : Board} {m : Move} {n n′ : ℕ} {c c′ : Board} → Bears b m n c → Bears b m n′ c′ → (n ≡ n′) × (c ≡ c′)
+child-once p q = (once (p .many) (q .many), once (p .becomes) (q .becomes))
