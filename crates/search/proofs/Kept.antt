@@ -5,13 +5,13 @@ use mathlib.Core.List.{List, [], _∷_}
 use mathlib.Core.Logic.{inl, inr}
 use Prim.Native.Nat.{ℕ, zero, suc}
 use lib.Dec.{leb}
-use Rattle.search.specs.Game.{Game, Child, among}
+use Rattle.search.specs.Game.{Game, among}
 use Rattle.search.specs.Solve.{Node, State, Grown, full, grown, End, won, limit, exhausted, stuck, Turn, over, again}
 use Rattle.search.specs.Solve.{MAX_DEPTH, cost, costOf, differs, childOf, dropped, noRoom, bornAs, bear, thenGrow, expand, visitAs, visit, grownTurn, taken, onward, stopped, goOn, run, bearing}
 
 module _ (G : Game) (P : State G → Type 0) (F : Node G → Type 0)
     (takes : (s : State G) (n : Node G) (l : List (Node G)) → s .waiting ≡ n ∷ l → P s → P (taken G l s) × F n)
-    (bears : (n : Node G) (k : Child (G .Board) (G .Move)) (s : State G) → F n → among k (G .children (n .board))
+    (bears : (n : Node G) (k : G .Move) (s : State G) → F n → among k (G .candidates (n .board))
     → dropped G (childOf G n k s) s ≡ false → P s → P (bearing G (childOf G n k s) s)) where
   abbrev GrownKept : Grown G → Type 0
   GrownKept full = Unit {0}
@@ -34,14 +34,14 @@ module _ (G : Game) (P : State G → Type 0) (F : Node G → Type 0)
   TurnKept (over e) = EndKept e
   TurnKept (again s) = P s
 
-  born-kept : (n : Node G) (k : Child (G .Board) (G .Move)) (s : State G) → F n → among k (G .children (n .board)) → P s
+  born-kept : (n : Node G) (k : G .Move) (s : State G) → F n → among k (G .candidates (n .board)) → P s
       → (x y : Bool) → dropped G (childOf G n k s) s ≡ x → GrownKept (bornAs G x y (childOf G n k s) s)
   born-kept n k s f i p true y e = p
   born-kept n k s f i p false true e = tt
   born-kept n k s f i p false false e = bears n k s f i e p
 
-  expand-kept : (c : ℕ) (n : Node G) (ks : List (Child (G .Board) (G .Move))) → F n
-      → ((k : Child (G .Board) (G .Move)) → among k ks → among k (G .children (n .board))) → (s : State G) → P s → GrownKept (expand G c n ks s)
+  expand-kept : (c : ℕ) (n : Node G) (ks : List (G .Move)) → F n
+      → ((k : G .Move) → among k ks → among k (G .candidates (n .board))) → (s : State G) → P s → GrownKept (expand G c n ks s)
   unfolding expand bear
   expand-kept c n [] f i s p = p
   expand-kept c n (k ∷ ks) f i s p =
@@ -61,7 +61,7 @@ module _ (G : Game) (P : State G → Type 0) (F : Node G → Type 0)
   visit-kept c n s f p false true y e = record { node = n; known = f; line = refl; wins = e }
   visit-kept c n s f p false false true e = p
   visit-kept c n s f p false false false e =
-      grown-kept (s .pops) (expand G c n (G .children (n .board)) s) (expand-kept c n (G .children (n .board)) f (λ k a. a) s p)
+      grown-kept (s .pops) (expand G c n (G .candidates (n .board)) s) (expand-kept c n (G .candidates (n .board)) f (λ k a. a) s p)
 
   pub kept : (a c : ℕ) (s : State G) → P s → EndKept (run G a c s)
   unfolding run visit

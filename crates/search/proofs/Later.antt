@@ -7,7 +7,7 @@ use native.Mathlib.Nat.{not-suc-le-zero, le-of-suc-le-suc}
 use native.Mathlib.Omega.{arith}
 use borrow.Author.Tests.{lt-leb, leb-false}
 use lib.Dec.{leb}
-use Rattle.search.specs.Game.{Game, Child}
+use Rattle.search.specs.Game.{Game}
 use Rattle.search.specs.Solve.{Node, State, Grown, full, grown, End, won, limit, exhausted, stuck, Turn, over, again}
 use Rattle.search.specs.Solve.{MAX_DEPTH, cost, costOf, differs, childOf, dropped, noRoom, bornAs, bear, thenGrow, expand, visitAs, visit, grownTurn, taken, onward, stopped, goOn, run}
 
@@ -37,13 +37,13 @@ module _ (G : Game) where
     born-more false true y m s u h e = full-or-grown u e
     born-more false false y m s u h e = subst (λ (z : Bool). bornAs G false z m s ≡ grown u) (sym (h refl)) e
 
-    bear-more : (n : Node G) (k : Child (G .Board) (G .Move)) (s u : State G) → bear G c n k s ≡ grown u → bear G d n k s ≡ grown u
+    bear-more : (n : Node G) (k : G .Move) (s u : State G) → bear G c n k s ≡ grown u → bear G d n k s ≡ grown u
     unfolding bear noRoom
     bear-more n k s u e =
         born-more (dropped G (childOf G n k s) s) (leb c (s .born)) (leb d (s .born)) (childOf G n k s) s u
         (λ q. lt-leb d (s .born) (let h = leb-false c (s .born) q in omega arith)) e
 
-    expand-more : (n : Node G) (ks : List (Child (G .Board) (G .Move))) (s u : State G) → expand G c n ks s ≡ grown u → expand G d n ks s ≡ grown u
+    expand-more : (n : Node G) (ks : List (G .Move)) (s u : State G) → expand G c n ks s ≡ grown u → expand G d n ks s ≡ grown u
     unfolding expand
     expand-more n [] s u e = e
     expand-more n (k ∷ ks) s u e = first (expand-more n ks) (bear G c n k s) refl e
@@ -67,8 +67,8 @@ module _ (G : Game) where
     visit-again false true y n s u e = over-or-again (won (n .line) (s .pops)) u e
     visit-again false false true n s u e = e
     visit-again false false false n s u e =
-        grown-turn (s .pops) (expand G c n (G .children (n .board)) s) (expand G d n (G .children (n .board)) s) u
-        (expand-more n (G .children (n .board)) s u) e
+        grown-turn (s .pops) (expand G c n (G .candidates (n .board)) s) (expand G d n (G .candidates (n .board)) s) u
+        (expand-more n (G .candidates (n .board)) s u) e
 
   -- ---- ends that stay
 
@@ -91,7 +91,7 @@ module _ (G : Game) where
   visit-over c d false true y n s e f q = q
   visit-over c d false false true n s e f q = over-or-again e s (sym q)
   visit-over c d false false false n s e f q =
-      grown-over (s .pops) (expand G c n (G .children (n .board)) s) (expand G d n (G .children (n .board)) s) e f q
+      grown-over (s .pops) (expand G c n (G .candidates (n .board)) s) (expand G d n (G .candidates (n .board)) s) e f q
 
   -- a turn never ends at the limit
   abbrev atLimit : End G → ℕ
@@ -112,9 +112,9 @@ module _ (G : Game) where
   visit-limit c true w y n s = refl
   visit-limit c false true y n s = refl
   visit-limit c false false true n s = refl
-  visit-limit c false false false n s = grown-limit (s .pops) (expand G c n (G .children (n .board)) s)
+  visit-limit c false false false n s = grown-limit (s .pops) (expand G c n (G .candidates (n .board)) s)
 
-  turn-limit : {A : Type 0} (c : ℕ) (n : Node G) (s u : State G) (e : End G) → visit G c n s ≡ over e → e ≡ limit u → A
+  pub turn-limit : {A : Type 0} (c : ℕ) (n : Node G) (s u : State G) (e : End G) → visit G c n s ≡ over e → e ≡ limit u → A
   unfolding visit
   turn-limit c n s u e q r =
       let z : _≡_ {A = ℕ} 0 1 =

@@ -1,6 +1,12 @@
--- Laws.
-pub mod Later
+-- Laws. Read these in this order.
+pub mod Examples
+pub mod Beginning
 pub mod Kept
 pub mod Lines
+pub mod Later
 pub mod Masters
 pub mod Pops
+pub mod Room
+pub mod OneRun
+pub mod Ruled
+pub mod Judge

@@ -1,15 +1,16 @@
 -- T1: every line that a search answers with leads from its board to a good one, within the depth; if it is called won, it ends won.
 use mathlib.Core.Path.{_≡_, refl, subst}
-use mathlib.Core.Bool.{Bool, true, false, cond, not, _&&_, _||_}
+use mathlib.Core.Bool.{Bool, true, false, cond, _||_}
 use mathlib.Core.List.{List, [], _∷_}
 use Prim.Native.Nat.{ℕ, _≤_}
 use native.Mathlib.Omega.{arith}
 use borrow.Author.Tests.{ltb-false}
-use lib.Dec.{eqb, ltb}
+use lib.Dec.{leb, ltb}
 use lib.ListN.{length}
-use Rattle.search.specs.Game.{Game, Child, Laws, among}
+use Rattle.search.specs.Game.{Game, Laws, among}
 use Rattle.search.specs.Solve.{Perhaps, none, some, Node, State, End, won, limit, exhausted, stuck}
-use Rattle.search.specs.Solve.{MAX_DEPTH, cost, costOf, asGood, before, queued, better, start, childOf, dropped, bearing, taken, run, progressed, answer, solveAs, solve}
+use Rattle.search.specs.Solve.{MAX_DEPTH, atLimit, whenExhausted, bestExhausted, cost, costOf, asGood, before, queued, better, start, childOf, dropped, bearing, taken, run, brings, bestAtLimit, progressed, answer, solveAs, solve}
+use Rattle.search.specs.Claims.{isSome}
 use Rattle.search.proofs.Kept.{EndKept, kept}
 
 module _ (G : Game) (L : Laws G) (b : G .Board) where
@@ -50,7 +51,7 @@ module _ (G : Game) (L : Laws G) (b : G .Board) where
   unfolding taken
   takes s n l e p = let a = subst AllFine e (p .all) in (record { all = a .1; best = p .best }, a .0)
 
-  bears : (n : Node G) (k : Child (G .Board) (G .Move)) (s : State G) → Fine n → among k (G .children (n .board))
+  bears : (n : Node G) (k : G .Move) (s : State G) → Fine n → among k (G .candidates (n .board))
       → dropped G (childOf G n k s) s ≡ false → Sane s → Sane (bearing G (childOf G n k s) s)
   unfolding bearing dropped better childOf
   bears n k s f i e p =
@@ -118,8 +119,8 @@ module _ (G : Game) (L : Laws G) (b : G .Board) where
         short = subst (λ (m : List (G .Move)). length m ≤ MAX_DEPTH) (q .line) (f .short);
         wins = λ z. q .wins;
       }
-  end-told partial (limit s) q = best-told s (partial && not (eqb (s .best .number) 0)) 1 3 (λ z. let w : ⊥ = omega arith in w) q
-  end-told partial (exhausted s) q = best-told s (partial && not (eqb (s .best .number) 0)) 2 4 (λ z. let w : ⊥ = omega arith in w) q
+  end-told partial (limit s) q = best-told s (brings G partial s) (bestAtLimit G s) atLimit (λ z. let w : ⊥ = omega arith in w) q
+  end-told partial (exhausted s) q = best-told s (brings G partial s) bestExhausted whenExhausted (λ z. let w : ⊥ = omega arith in w) q
   end-told partial (stuck p) q = tt
 
   solve-told : L .Good b → (budget capacity : ℕ) (partial w : Bool) → G .won b ≡ w
@@ -134,3 +135,29 @@ module _ (G : Game) (L : Laws G) (b : G .Board) where
   unfolding solve
   lines-lead g budget capacity partial l e =
       subst (Told (solveAs G (G .won b) b budget capacity partial .number)) e (solve-told g budget capacity partial (G .won b) refl)
+
+module _ (G : Game) where
+  -- ---- which answers bring a list
+
+  list-number : (p : Bool) (e : End G) → isSome (answer G p e .list) ≡ leb (answer G p e .number) 2
+  list-number p (won l n) = refl
+  list-number p (limit s) = by-list (brings G p s)
+    where
+      by-list : (t : Bool) → isSome (progressed G t (bestAtLimit G s) atLimit s .list) ≡ leb (progressed G t (bestAtLimit G s) atLimit s .number) 2
+      by-list true = refl
+      by-list false = refl
+  list-number p (exhausted s) = by-list (brings G p s)
+    where
+      by-list : (t : Bool) → isSome (progressed G t bestExhausted whenExhausted s .list) ≡ leb (progressed G t bestExhausted whenExhausted s .number) 2
+      by-list true = refl
+      by-list false = refl
+  list-number p (stuck n) = refl
+
+  -- answers 0, 1 and 2 bring a list, the others none
+  pub list-when : (b : G .Board) (budget capacity : ℕ) (p : Bool) → isSome (solve G b budget capacity p .list) ≡ leb (solve G b budget capacity p .number) 2
+  unfolding solve
+  list-when b budget capacity p = by-start (G .won b)
+    where
+      by-start : (w : Bool) → isSome (solveAs G w b budget capacity p .list) ≡ leb (solveAs G w b budget capacity p .number) 2
+      by-start true = refl
+      by-start false = list-number p (run G budget capacity (start G b))

@@ -1,15 +1,15 @@
 -- T2 and T3: two masters never disagree, and larger settings keep what was won or exhausted and never lower the best progress.
 use mathlib.Core.Path.{_≡_, refl, sym, ap, _∙_, subst}
-use mathlib.Core.Bool.{Bool, true, false, cond, not, _&&_}
+use mathlib.Core.Bool.{Bool, true, false, cond}
 use mathlib.Core.List.{List, _∷_}
 use mathlib.Core.Logic.{_⊎_, inl, inr}
 use Prim.Native.Nat.{ℕ, _+_, _-_, _≤_}
 use native.Mathlib.Omega.{arith}
 use borrow.Author.Tests.{ltb-true}
-use lib.Dec.{eqb, ltb}
-use Rattle.search.specs.Game.{Game, Child, Laws, among}
-use Rattle.search.specs.Solve.{some, Node, State, End, won, limit, exhausted, stuck}
-use Rattle.search.specs.Solve.{better, start, childOf, dropped, bearing, taken, run, progressed, answer, solveAs, solve}
+use lib.Dec.{ltb}
+use Rattle.search.specs.Game.{Game, Laws, among}
+use Rattle.search.specs.Solve.{Perhaps, some, Node, State, End, won, limit, exhausted, stuck, Answer}
+use Rattle.search.specs.Solve.{atLimit, whenExhausted, bestExhausted, better, start, childOf, dropped, bearing, taken, run, brings, bestAtLimit, progressed, answer, solveAs, solve}
 use Rattle.search.proofs.Later.{Fixed, stays, goes-on}
 use Rattle.search.proofs.Kept.{EndKept, kept}
 use Rattle.search.proofs.Lines.{Fine, BestFine, best-fine}
@@ -25,50 +25,44 @@ module _ (G : Game) where
 
   -- ---- what the numbers say of an end
 
-  abbrev isFixed : ℕ → Type 0
+  abbrev pub isFixed : ℕ → Type 0
   isFixed n = (n ≡ 0) ⊎ ((n ≡ 2) ⊎ (n ≡ 4))
-
-  not-one : isFixed 1 → ⊥
-  not-one (inl e) = omega arith
-  not-one (inr (inl e)) = omega arith
-  not-one (inr (inr e)) = omega arith
-
-  not-three : isFixed 3 → ⊥
-  not-three (inl e) = omega arith
-  not-three (inr (inl e)) = omega arith
-  not-three (inr (inr e)) = omega arith
 
   not-stuck : isFixed 23 → ⊥
   not-stuck (inl e) = omega arith
   not-stuck (inr (inl e)) = omega arith
   not-stuck (inr (inr e)) = omega arith
 
-  limit-number : (t : Bool) (s : State G) → isFixed (progressed G t 1 3 s .number) → ⊥
-  limit-number true s e = not-one e
-  limit-number false s e = not-three e
+  limit-number : (t : Bool) (s : State G) → isFixed (progressed G t (bestAtLimit G s) atLimit s .number) → ⊥
+  limit-number true s (inl e) = omega arith
+  limit-number true s (inr (inl e)) = omega arith
+  limit-number true s (inr (inr e)) = omega arith
+  limit-number false s (inl e) = omega arith
+  limit-number false s (inr (inl e)) = omega arith
+  limit-number false s (inr (inr e)) = omega arith
 
   fixed-end : (partial : Bool) (e : End G) → isFixed (answer G partial e .number) → Fixed G e
   fixed-end partial (won l p) f = tt
-  fixed-end partial (limit s) f = limit-number (partial && not (eqb (s .best .number) 0)) s f
+  fixed-end partial (limit s) f = limit-number (brings G partial s) s f
   fixed-end partial (exhausted s) f = tt
   fixed-end partial (stuck p) f = not-stuck f
 
-  exhausted-number : {A : Type 0} (t : Bool) (s : State G) → progressed G t 2 4 s .number ≡ 0 → A
+  exhausted-number : {A : Type 0} (t : Bool) (s : State G) → progressed G t bestExhausted whenExhausted s .number ≡ 0 → A
   exhausted-number true s e = absurd (let w : ⊥ = omega arith in w)
   exhausted-number false s e = absurd (let w : ⊥ = omega arith in w)
 
   -- a won end has its list whatever the flag
   won-list : (p q : Bool) (e : End G) → answer G p e .number ≡ 0 → answer G p e .list ≡ answer G q e .list
   won-list p q (won l n) e = refl
-  won-list p q (limit s) e = absurd (limit-number (p && not (eqb (s .best .number) 0)) s (inl e))
-  won-list p q (exhausted s) e = exhausted-number (p && not (eqb (s .best .number) 0)) s e
+  won-list p q (limit s) e = absurd (limit-number (brings G p s) s (inl e))
+  won-list p q (exhausted s) e = exhausted-number (brings G p s) s e
   won-list p q (stuck n) e = absurd (let w : ⊥ = omega arith in w)
 
   won-or-exhausted : (p q : Bool) (e : End G) → answer G p e .number ≡ 0 → (answer G q e .number ≡ 2) ⊎ (answer G q e .number ≡ 4) → ⊥
   won-or-exhausted p q (won l n) e (inl f) = omega arith
   won-or-exhausted p q (won l n) e (inr f) = omega arith
-  won-or-exhausted p q (limit s) e f = limit-number (p && not (eqb (s .best .number) 0)) s (inl e)
-  won-or-exhausted p q (exhausted s) e f = exhausted-number (p && not (eqb (s .best .number) 0)) s e
+  won-or-exhausted p q (limit s) e f = limit-number (brings G p s) s (inl e)
+  won-or-exhausted p q (exhausted s) e f = exhausted-number (brings G p s) s e
   won-or-exhausted p q (stuck n) e f = omega arith
 
   module _ (b : G .Board) where
@@ -123,7 +117,7 @@ module _ (G : Game) where
     unfolding taken
     taking s n l e h = (h, tt)
 
-    child-more : (n : Node G) (c : Child (G .Board) (G .Move)) (s : State G) → Unit {0} → among c (G .children (n .board))
+    child-more : (n : Node G) (c : G .Move) (s : State G) → Unit {0} → among c (G .candidates (n .board))
         → dropped G (childOf G n c s) s ≡ false → AtLeast s → AtLeast (bearing G (childOf G n c s) s)
     unfolding bearing better
     child-more n c s f i e h = rise (ltb (G .progress (s .best .board)) (G .progress (childOf G n c s .board))) (childOf G n c s) (s .best) refl h
@@ -166,22 +160,19 @@ module _ (G : Game) (L : Laws G) (b : G .Board) (good : L .Good b) where
   best-board s false x y l c f e h = let z : _≡_ {A = ℕ} 0 1 = cc in absurd (let w : ⊥ = omega arith in w)
 
   module _ {a c x y : ℕ} (h : a ≤ x) (k : c ≤ y) (p : Bool) (l m : List (G .Move)) (d e : G .Board) (leads : L .Leads b l d) (leads′ : L .Leads b m e) where
-    abbrev whether : State G → Bool
-    whether s = p && not (eqb (s .best .number) 0)
-
     last : (u : State G) → run G a c (start G b) ≡ limit u → answer G p (limit u) .list ≡ some l → (r : End G) → run G x y (start G b) ≡ r
         → (answer G p r .number ≡ 1) ⊎ (answer G p r .number ≡ 2) → answer G p r .list ≡ some m → G .progress d ≤ G .progress e
     last u small q (won n i) large (inl j) t = absurd (let w : ⊥ = omega arith in w)
     last u small q (won n i) large (inr j) t = absurd (let w : ⊥ = omega arith in w)
     last u small q (limit v) large j t =
         let g = limit-grows G h k (start G b) u small v large in
-        let f = best-board u (whether u) 1 3 l d (subst (BestFine G L b) small (best-fine G L b good a c)) q leads in
-        let f′ = best-board v (whether v) 1 3 m e (subst (BestFine G L b) large (best-fine G L b good x y)) t leads′ in
+        let f = best-board u (brings G p u) (bestAtLimit G u) atLimit l d (subst (BestFine G L b) small (best-fine G L b good a c)) q leads in
+        let f′ = best-board v (brings G p v) (bestAtLimit G v) atLimit m e (subst (BestFine G L b) large (best-fine G L b good x y)) t leads′ in
         omega arith
     last u small q (exhausted v) large j t =
         let g = exhausted-grows G h k (start G b) u small v large in
-        let f = best-board u (whether u) 1 3 l d (subst (BestFine G L b) small (best-fine G L b good a c)) q leads in
-        let f′ = best-board v (whether v) 2 4 m e (subst (BestFine G L b) large (best-fine G L b good x y)) t leads′ in
+        let f = best-board u (brings G p u) (bestAtLimit G u) atLimit l d (subst (BestFine G L b) small (best-fine G L b good a c)) q leads in
+        let f′ = best-board v (brings G p v) bestExhausted whenExhausted m e (subst (BestFine G L b) large (best-fine G L b good x y)) t leads′ in
         omega arith
     last u small q (stuck n) large (inl j) t = absurd (let w : ⊥ = omega arith in w)
     last u small q (stuck n) large (inr j) t = absurd (let w : ⊥ = omega arith in w)
@@ -191,9 +182,9 @@ module _ (G : Game) (L : Laws G) (b : G .Board) (good : L .Good b) where
         → answer G p (run G x y (start G b)) .list ≡ some m → G .progress d ≤ G .progress e
     first (won n i) small j q large t = absurd (let w : ⊥ = omega arith in w)
     first (limit u) small j q large t = last u small q (run G x y (start G b)) refl large t
-    first (exhausted u) small j q large t = two-or-four (whether u) u j
+    first (exhausted u) small j q large t = two-or-four (brings G p u) u j
       where
-        two-or-four : (v : Bool) (u : State G) → progressed G v 2 4 u .number ≡ 1 → G .progress d ≤ G .progress e
+        two-or-four : (v : Bool) (u : State G) → progressed G v bestExhausted whenExhausted u .number ≡ 1 → G .progress d ≤ G .progress e
         two-or-four true u j = absurd (let w : ⊥ = omega arith in w)
         two-or-four false u j = absurd (let w : ⊥ = omega arith in w)
     first (stuck n) small j q large t = absurd (let w : ⊥ = omega arith in w)
@@ -208,3 +199,17 @@ module _ (G : Game) (L : Laws G) (b : G .Board) (good : L .Good b) where
         → (solve G b x y p .number ≡ 1) ⊎ (solve G b x y p .number ≡ 2) → solve G b x y p .list ≡ some m → G .progress d ≤ G .progress e
     unfolding solve
     progress-grows j q large t = by-start (G .won b) j q large t
+
+    -- T3: the same where the smaller settings were exhausted
+    pub never-lower : (solve G b a c p .number ≡ 1) ⊎ (solve G b a c p .number ≡ 2) → solve G b a c p .list ≡ some l
+        → (solve G b x y p .number ≡ 1) ⊎ (solve G b x y p .number ≡ 2) → solve G b x y p .list ≡ some m → G .progress d ≤ G .progress e
+    never-lower (inl j) q large t = progress-grows j q large t
+    never-lower (inr j) q large t =
+        let same = ap (λ (r : Answer G). r .list) (larger-settings G b a c x y p h k (inr (inl j))) in
+        let one : m ≡ l = same-line (sym t ∙ same ∙ q) in
+        let end : d ≡ e = L .one-end leads (subst (λ (n : List (G .Move)). L .Leads b n e) one leads′) in
+        let f = ap (G .progress) end in
+        omega arith
+      where
+        same-line : {l m : List (G .Move)} → _≡_ {A = Perhaps (List (G .Move))} (some m) (some l) → m ≡ l
+        same-line e = cc

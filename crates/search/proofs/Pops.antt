@@ -1,14 +1,15 @@
--- T4: pops never exceed the budget, and a search is stuck exactly when a child that is not dropped finds no room.
-use mathlib.Core.Path.{_≡_, refl, subst}
-use mathlib.Core.Bool.{Bool, true, false, not, _&&_}
+-- T4: pops never exceed the budget, and the limit strikes only when they reach it.
+use mathlib.Core.Path.{_≡_, refl, ap, subst}
+use mathlib.Core.Bool.{Bool, true, false}
 use mathlib.Core.List.{List, [], _∷_}
+use mathlib.Core.Logic.{_⊎_, inl, inr}
 use Prim.Native.Nat.{ℕ, zero, suc, _+_, _≤_}
 use native.Mathlib.Omega.{arith}
-use borrow.Author.Tests.{le-leb, leb-true}
-use lib.Dec.{eqb, leb}
-use Rattle.search.specs.Game.{Game, Child}
+use lib.Dec.{leb}
+use Rattle.search.specs.Game.{Game}
 use Rattle.search.specs.Solve.{Node, State, Grown, full, grown, End, won, limit, exhausted, stuck, Turn, over, again}
-use Rattle.search.specs.Solve.{MAX_DEPTH, cost, costOf, differs, childOf, dropped, noRoom, bornAs, bear, bearing, thenGrow, expand, visitAs, visit, grownTurn, taken, onward, stopped, goOn, start, run, progressed, answer, solveAs, solve}
+use Rattle.search.specs.Solve.{MAX_DEPTH, atLimit, whenExhausted, bestExhausted, cost, costOf, differs, childOf, dropped, noRoom, bornAs, bear, bearing, thenGrow, expand, visitAs, visit, grownTurn, taken, onward, stopped, goOn, start, run, brings, bestAtLimit, progressed, answer, solveAs, solve}
+use Rattle.search.proofs.Later.{turn-limit}
 
 module _ (G : Game) where
   abbrev popsOf : End G → ℕ
@@ -29,7 +30,7 @@ module _ (G : Game) where
     born-pops false true m s e = tt
     born-pops false false m s e = e
 
-    expand-pops : (c : ℕ) (n : Node G) (ks : List (Child (G .Board) (G .Move))) (s : State G) → s .pops ≡ k → GrownPops (expand G c n ks s)
+    expand-pops : (c : ℕ) (n : Node G) (ks : List (G .Move)) (s : State G) → s .pops ≡ k → GrownPops (expand G c n ks s)
     unfolding expand bear
     expand-pops c n [] s e = e
     expand-pops c n (j ∷ ks) s e =
@@ -53,11 +54,18 @@ module _ (G : Game) where
   visit-pops c n s false true y = refl
   visit-pops c n s false false true = refl
   visit-pops c n s false false false =
-      grown-pops (s .pops) (expand G c n (G .children (n .board)) s) (expand-pops (s .pops) c n (G .children (n .board)) s refl)
+      grown-pops (s .pops) (expand G c n (G .candidates (n .board)) s) (expand-pops (s .pops) c n (G .candidates (n .board)) s refl)
 
   one-more : (l : List (Node G)) (s : State G) → taken G l s .pops ≡ suc (s .pops)
   unfolding taken
   one-more l s = refl
+
+  -- a turn counts one pop
+  one-pop : (c : ℕ) (n : Node G) (l : List (Node G)) (s : State G) → TurnPops (suc (s .pops)) (visit G c n (taken G l s))
+  unfolding visit
+  one-pop c n l s =
+      subst (λ (p : ℕ). TurnPops p (visit G c n (taken G l s))) (one-more l s)
+      (visit-pops c n (taken G l s) (differs (costOf G (G .signature (n .board)) (taken G l s .known)) (cost G n)) (G .won (n .board)) (leb MAX_DEPTH (cost G n)))
 
   within : (a c : ℕ) (s : State G) → popsOf (run G a c s) ≤ s .pops + a
   unfolding run visit
@@ -75,9 +83,30 @@ module _ (G : Game) where
       going : ((u : State G) → popsOf (run G a c u) ≤ u .pops + a) → (l : List (Node G)) → popsOf (goOn G c l s (run G a c)) ≤ s .pops + suc a
       going rest [] = omega arith
       going rest (n ∷ l) =
-          turned rest (visit G c n (taken G l s))
-          (subst (λ (p : ℕ). TurnPops p (visit G c n (taken G l s))) (one-more l s)
-          (visit-pops c n (taken G l s) (differs (costOf G (G .signature (n .board)) (taken G l s .known)) (cost G n)) (G .won (n .board)) (leb MAX_DEPTH (cost G n))))
+          turned rest (visit G c n (taken G l s)) (one-pop c n l s)
+
+  -- at the limit the budget is spent
+  spent : (a c : ℕ) (s u : State G) → run G a c s ≡ limit u → u .pops ≡ s .pops + a
+  unfolding run
+  spent zero c s u e = at-rest (s .waiting) e
+    where
+      same : (s u : State G) → _≡_ {A = End G} (limit s) (limit u) → u ≡ s
+      same s u e = cc
+
+      at-rest : (l : List (Node G)) → stopped G l s ≡ limit u → u .pops ≡ s .pops + 0
+      at-rest [] e = let z : _≡_ {A = ℕ} 0 1 = cc in absurd (let w : ⊥ = omega arith in w)
+      at-rest (n ∷ l) e = let h = ap (λ (v : State G). v .pops) (same s u e) in omega arith
+  spent (suc a) c s u e = going (spent a c) (s .waiting) e
+    where
+      turned : ((v u : State G) → run G a c v ≡ limit u → u .pops ≡ v .pops + a) → (n : Node G) (v : State G) (t : Turn G) → visit G c n v ≡ t
+          → TurnPops (suc (s .pops)) t → onward G t (run G a c) ≡ limit u → u .pops ≡ s .pops + suc a
+      turned rest n v (over r) q h e = turn-limit G c n v u r q e
+      turned rest n v (again w) q h e = let k = rest w u e in omega arith
+
+      going : ((v u : State G) → run G a c v ≡ limit u → u .pops ≡ v .pops + a) → (l : List (Node G)) → goOn G c l s (run G a c) ≡ limit u
+          → u .pops ≡ s .pops + suc a
+      going rest [] e = let z : _≡_ {A = ℕ} 0 1 = cc in absurd (let w : ⊥ = omega arith in w)
+      going rest (n ∷ l) e = turned rest n (taken G l s) (visit G c n (taken G l s)) refl (one-pop c n l s) e
 
   -- ---- as it is answered
 
@@ -87,8 +116,8 @@ module _ (G : Game) where
 
   answer-pops : (p : Bool) (e : End G) → answer G p e .pops ≡ popsOf e
   answer-pops p (won l n) = refl
-  answer-pops p (limit s) = best-pops (p && not (eqb (s .best .number) 0)) 1 3 s
-  answer-pops p (exhausted s) = best-pops (p && not (eqb (s .best .number) 0)) 2 4 s
+  answer-pops p (limit s) = best-pops (brings G p s) (bestAtLimit G s) atLimit s
+  answer-pops p (exhausted s) = best-pops (brings G p s) bestExhausted whenExhausted s
   answer-pops p (stuck n) = refl
 
   by-start : (b : G .Board) (budget capacity : ℕ) (p w : Bool) → solveAs G w b budget capacity p .pops ≤ budget
@@ -102,19 +131,32 @@ module _ (G : Game) where
   unfolding solve
   pops-within b budget capacity p = by-start b budget capacity p (G .won b)
 
-  -- a child finds no room exactly when it is not dropped and the nodes already fill the capacity
-  pub no-room-when : (c : ℕ) (n : Node G) (k : Child (G .Board) (G .Move)) (s : State G)
-      → dropped G (childOf G n k s) s ≡ false → c ≤ s .born → bear G c n k s ≡ full
-  unfolding bear noRoom
-  no-room-when c n k s e h = rw (e, le-leb c (s .born) h)
+  -- the limit is told by 1 or 3
+  abbrev pub isLimit : ℕ → Type 0
+  isLimit n = (n ≡ 1) ⊎ (n ≡ 3)
 
-  pub only-then : (c : ℕ) (n : Node G) (k : Child (G .Board) (G .Move)) (s : State G) → bear G c n k s ≡ full
-      → (dropped G (childOf G n k s) s ≡ false) × (c ≤ s .born)
-  unfolding bear noRoom
-  only-then c n k s e = by-tests (dropped G (childOf G n k s) s) (leb c (s .born)) refl refl e
-    where
-      by-tests : (x y : Bool) → dropped G (childOf G n k s) s ≡ x → leb c (s .born) ≡ y → bornAs G x y (childOf G n k s) s ≡ full
-          → (dropped G (childOf G n k s) s ≡ false) × (c ≤ s .born)
-      by-tests true y p q e = let z : _≡_ {A = ℕ} 0 1 = cc in absurd (let w : ⊥ = omega arith in w)
-      by-tests false true p q e = (p, leb-true c (s .born) q)
-      by-tests false false p q e = let z : _≡_ {A = ℕ} 0 1 = cc in absurd (let w : ⊥ = omega arith in w)
+  exhausted-no-limit : {A : Type 0} (t : Bool) (s : State G) → isLimit (progressed G t bestExhausted whenExhausted s .number) → A
+  exhausted-no-limit true s (inl e) = absurd (let w : ⊥ = omega arith in w)
+  exhausted-no-limit true s (inr e) = absurd (let w : ⊥ = omega arith in w)
+  exhausted-no-limit false s (inl e) = absurd (let w : ⊥ = omega arith in w)
+  exhausted-no-limit false s (inr e) = absurd (let w : ⊥ = omega arith in w)
+
+  module _ (b : G .Board) (budget capacity : ℕ) (p : Bool) where
+    by-end : (e : End G) → run G budget capacity (start G b) ≡ e → isLimit (answer G p e .number) → answer G p e .pops ≡ budget
+    unfolding start
+    by-end (won l n) q (inl e) = absurd (let w : ⊥ = omega arith in w)
+    by-end (won l n) q (inr e) = absurd (let w : ⊥ = omega arith in w)
+    by-end (limit s) q e = let h = spent budget capacity (start G b) s q in let k = best-pops (brings G p s) (bestAtLimit G s) atLimit s in omega arith
+    by-end (exhausted s) q e = exhausted-no-limit (brings G p s) s e
+    by-end (stuck n) q (inl e) = absurd (let w : ⊥ = omega arith in w)
+    by-end (stuck n) q (inr e) = absurd (let w : ⊥ = omega arith in w)
+
+    -- T4: the limit strikes only when the budget is spent
+    pub limit-spends : isLimit (solve G b budget capacity p .number) → solve G b budget capacity p .pops ≡ budget
+    unfolding solve
+    limit-spends e = by-win (G .won b) e
+      where
+        by-win : (w : Bool) → isLimit (solveAs G w b budget capacity p .number) → solveAs G w b budget capacity p .pops ≡ budget
+        by-win true (inl e) = absurd (let w : ⊥ = omega arith in w)
+        by-win true (inr e) = absurd (let w : ⊥ = omega arith in w)
+        by-win false e = by-end (run G budget capacity (start G b)) refl e

@@ -3,13 +3,7 @@ use mathlib.Core.Path.{_≡_}
 use mathlib.Core.Bool.{Bool}
 use mathlib.Core.List.{List, [], _∷_, _++_}
 use mathlib.Core.Logic.{_⊎_}
-use Prim.Native.Nat.{ℕ, _≤_}
-use lib.ListN.{length}
-
--- a board that can be reached, and the moves that lead there
-pub record Child (Board Move : Type 0) : Type 0 where
-  pub moves : List Move
-  pub board : Board
+use Prim.Native.Nat.{ℕ}
 
 pub record Game : Type 1 where
   pub Board : Type 0
@@ -22,8 +16,11 @@ pub record Game : Type 1 where
   -- scores, raised to natural numbers
   pub heuristic : Board → ℕ
   pub progress : Board → ℕ
-  -- what can be tried, in order
-  pub children : Board → List (Child Board Move)
+  -- the moves that can be tried, in order
+  pub candidates : Board → List Move
+  -- the child that a candidate makes: the moves that lead to it, and its board
+  pub childMoves : Board → Move → List Move
+  pub childBoard : Board → Move → Board
 
 -- x stands in a list
 abbrev pub among : {A : Type 0} → A → List A → Type 0
@@ -37,6 +34,5 @@ pub record Laws (G : Game) : Type 1 where
   pub none-leads : (b : G .Board) → Leads b [] b
   pub both-lead : {b c d : G .Board} {l m : List (G .Move)} → Leads b l c → Leads c m d → Leads b (l ++ m) d
   pub one-end : {b c d : G .Board} {l : List (G .Move)} → Leads b l c → Leads b l d → c ≡ d
-  pub child-leads : (b : G .Board) (k : Child (G .Board) (G .Move)) → Good b → among k (G .children b) → Leads b (k .moves) (k .board)
-  pub child-good : (b : G .Board) (k : Child (G .Board) (G .Move)) → Good b → among k (G .children b) → Good (k .board)
-  pub child-moves : (b : G .Board) (k : Child (G .Board) (G .Move)) → Good b → among k (G .children b) → 1 ≤ length (k .moves)
+  pub child-leads : (b : G .Board) (m : G .Move) → Good b → among m (G .candidates b) → Leads b (G .childMoves b m) (G .childBoard b m)
+  pub child-good : (b : G .Board) (m : G .Move) → Good b → among m (G .candidates b) → Good (G .childBoard b m)

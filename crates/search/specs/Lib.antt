@@ -1,3 +1,6 @@
 -- Read these in this order.
 pub mod Game
 pub mod Solve
+pub mod Freecell
+pub mod Claims
+pub mod Played

@@ -4,11 +4,21 @@ use mathlib.Core.List.{List, [], _∷_, _++_}
 use Prim.Native.Nat.{ℕ, zero, suc, _+_}
 use lib.Dec.{eqb, leb, ltb}
 use lib.ListN.{length}
-use Rattle.search.specs.Game.{Game, Child}
+use Rattle.search.specs.Game.{Game}
 
 -- the most moves of a line
 abbrev pub MAX_DEPTH : ℕ
 MAX_DEPTH = 200
+
+-- document 01's numbers: the limit without a list, exhausted without and with one (`bestAtLimit`, below, is the fourth)
+abbrev pub atLimit : ℕ
+atLimit = 3
+
+abbrev pub whenExhausted : ℕ
+whenExhausted = 4
+
+abbrev pub bestExhausted : ℕ
+bestExhausted = 2
 
 -- something, or nothing
 pub data Perhaps (A : Type 0) : Type 0 where
@@ -78,8 +88,9 @@ module _ (G : Game) where
 
   -- ---- a child
 
-  unfoldable pub childOf : Node → Child (G .Board) (G .Move) → State → Node
-  childOf n k s = record { number = s .born; line = n .line ++ k .moves; board = k .board }
+  -- the child of a node by a candidate
+  unfoldable pub childOf : Node → G .Move → State → Node
+  childOf n m s = record { number = s .born; line = n .line ++ G .childMoves (n .board) m; board = G .childBoard (n .board) m }
 
   -- dropped: over the depth, or with a known cost not above its own
   unfoldable pub dropped : Node → State → Bool
@@ -113,7 +124,7 @@ module _ (G : Game) where
   bornAs false true m s = full
   bornAs false false m s = grown (bearing m s)
 
-  unfoldable pub bear : ℕ → Node → Child (G .Board) (G .Move) → State → Grown
+  unfoldable pub bear : ℕ → Node → G .Move → State → Grown
   bear capacity n k s = bornAs (dropped (childOf n k s) s) (noRoom capacity s) (childOf n k s) s
 
   abbrev pub thenGrow : Grown → (State → Grown) → Grown
@@ -121,7 +132,7 @@ module _ (G : Game) where
   thenGrow (grown s) f = f s
 
   -- the children in order
-  unfoldable pub expand : ℕ → Node → List (Child (G .Board) (G .Move)) → State → Grown
+  unfoldable pub expand : ℕ → Node → List (G .Move) → State → Grown
   expand capacity n [] s = grown s
   expand capacity n (k ∷ ks) s = thenGrow (bear capacity n k s) (expand capacity n ks)
 
@@ -147,7 +158,7 @@ module _ (G : Game) where
   visitAs true w d capacity n s = again s
   visitAs false true d capacity n s = over (won (n .line) (s .pops))
   visitAs false false true capacity n s = again s
-  visitAs false false false capacity n s = grownTurn (s .pops) (expand capacity n (G .children (n .board)) s)
+  visitAs false false false capacity n s = grownTurn (s .pops) (expand capacity n (G .candidates (n .board)) s)
 
   unfoldable pub visit : ℕ → Node → State → Turn
   visit capacity n s =
@@ -185,15 +196,23 @@ module _ (G : Game) where
     pub list : Perhaps (List (G .Move))
     pub pops : ℕ
 
-  -- the best progress, if it is allowed and there is any
+  -- a best-progress list is brought: partial is allowed, and some child was better than the start
+  abbrev pub brings : Bool → State → Bool
+  brings partial s = partial && not (eqb (s .best .number) 0)
+
+  -- what the answer at the limit is called when it brings a list
+  abbrev pub bestAtLimit : State → ℕ
+  bestAtLimit s = 1
+
+  -- with the best line, or without
   abbrev pub progressed : Bool → ℕ → ℕ → State → Answer
   progressed true with without s = record { number = with; list = some (s .best .line); pops = s .pops }
   progressed false with without s = record { number = without; list = none; pops = s .pops }
 
   abbrev pub answer : Bool → End → Answer
   answer partial (won l p) = record { number = 0; list = some l; pops = p }
-  answer partial (limit s) = progressed (partial && not (eqb (s .best .number) 0)) 1 3 s
-  answer partial (exhausted s) = progressed (partial && not (eqb (s .best .number) 0)) 2 4 s
+  answer partial (limit s) = progressed (brings partial s) (bestAtLimit s) atLimit s
+  answer partial (exhausted s) = progressed (brings partial s) bestExhausted whenExhausted s
   answer partial (stuck p) = record { number = 23; list = none; pops = p }
 
   -- a won start is won at once

@@ -1,0 +1,35 @@
+-- FreeCell as a game for the search: the rules by their names, and nothing of their text.
+use mathlib.Core.Bool.{Bool}
+use Prim.Native.Nat.{ℕ}
+use lib.Dec.{eqb}
+use Rattle.board.specs.Table.{Table}
+use Rattle.questions.specs.Questions.{wonOn}
+use Rattle.moves.specs.declared.Move.{Move}
+use Rattle.signature.specs.Signed.{signatureOf}
+use Rattle.score.specs.Features.{featuresOf}
+use Rattle.score.specs.Scores.{heuristicKey, progressKey}
+use Rattle.candidates.specs.Candidates.{candidates}
+use Rattle.candidates.specs.Children.{childMoves, childTable}
+use Rattle.search.specs.Game.{Game}
+use Rattle.search.specs.Solve.{Answer, solve}
+
+-- two boards count as the same if their signatures are equal
+abbrev pub freecell : Game
+freecell =
+    record {
+      Board = Table;
+      Move = Move;
+      Key = ℕ;
+      signature = signatureOf;
+      same = eqb;
+      won = λ t. wonOn (t .foundation);
+      heuristic = λ t. heuristicKey (featuresOf t);
+      progress = λ t. progressKey (featuresOf t);
+      candidates = candidates;
+      childMoves = childMoves;
+      childBoard = childTable;
+    }
+
+-- the search of a table: budget, capacity, whether partial is allowed
+unfoldable pub judge : Table → ℕ → ℕ → Bool → Answer freecell
+judge t budget capacity partial = solve freecell t budget capacity partial
