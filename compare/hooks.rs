@@ -33,3 +33,15 @@ pub fn hook_first_safe(board: &FreeCellBoard) -> Option<FreeCellMove> {
 pub fn hook_chain(board: &FreeCellBoard) -> Option<(FreeCellBoard, Vec<FreeCellMove>)> {
     auto_play_safe_chain(board)
 }
+
+// The candidates in order, each with its priority.
+pub fn hook_candidates(board: &FreeCellBoard) -> Vec<(FreeCellMove, i64)> {
+    let before = compute_features(board);
+    find_all_moves(board)
+        .into_iter()
+        .map(|(step, after)| {
+            let priority = local_priority(&step, &before, &after);
+            (step, priority)
+        })
+        .collect()
+}

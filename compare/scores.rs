@@ -1,4 +1,4 @@
-// Boards for crates/oracle_scores, with the features, scores and safe play of the original Rust.
+// Boards for crates/oracle_scores, with the features, scores, safe play and candidates of the original Rust.
 //
 // Run by compare/make.sh SOURCES, which lays the original's common/ and freecell/ beside this file, adds hooks.rs to its
 // copy of solver.rs (these functions are private there), and compiles it with rustc alone. It takes two file names: where
@@ -6,9 +6,10 @@
 //
 // Input: items one after the other. A byte 1, then a board image. Or a byte 3, which begins the second list of boards:
 // those with a column over seven cards.
-// Output, for an image: the seven features, the heuristic, the progress score; the token; a digit 1 for each of the 52
-// cards, ace of clubs first, that is safe; the record of the first safe move or `-`; the moves of the safe chain and the
-// signature of the board after it. For a byte 3 a heading.
+// Output, for an image: the seven features, the heuristic, the progress score; the token and how many bytes of its room
+// stayed; a digit 1 for each of the 52 cards, ace of clubs first, that is safe; the record of the first safe move or `-`; the
+// moves of the safe chain and the signature of the board after it; the number of candidates and how many bytes of their room
+// stayed; then each candidate in order, its record and its priority. For a byte 3 a heading.
 
 pub mod common {
     pub mod card;
@@ -21,12 +22,25 @@ pub mod freecell {
 pub mod shared;
 
 use common::card::{Card, Suit};
-use freecell::board::FreeCellBoard;
+use freecell::board::{FreeCellBoard, FreeCellMove};
 use freecell::solver::{
-    deal, hook_chain, hook_features, hook_first_safe, hook_heuristic, hook_progress, hook_safe,
-    progress_token,
+    deal, hook_candidates, hook_chain, hook_features, hook_first_safe, hook_heuristic,
+    hook_progress, hook_safe, progress_token,
 };
 use shared::{drawn_move, hex, image, is_long, made_up, record, won_board, Draws};
+
+// The room that the program lends.
+const TOKEN_ROOM: usize = 40;
+const CANDIDATE_ROOM: usize = 4190;
+
+fn candidates_text(candidates: &[(FreeCellMove, i64)]) -> String {
+    let stayed = CANDIDATE_ROOM - candidates.len() * 5;
+    let mut text = format!("{} {}\n", candidates.len(), stayed);
+    for (step, priority) in candidates {
+        text += &format!("{} {}\n", hex(&record(step)), priority);
+    }
+    text
+}
 
 fn answers(board: &FreeCellBoard) -> String {
     let mut text = String::new();
@@ -34,7 +48,8 @@ fn answers(board: &FreeCellBoard) -> String {
         text += &format!("{n} ");
     }
     text += &format!("{} {}\n", hook_heuristic(board), hook_progress(board));
-    text += &format!("{}\n", progress_token(board));
+    let token = progress_token(board);
+    text += &format!("{} {}\n", token, TOKEN_ROOM - token.len());
     for k in 0..52u8 {
         let card = Card::new(Suit::from_u8(k % 4).unwrap(), k / 4 + 1);
         text += &format!("{}", hook_safe(board, card) as u8);
@@ -44,7 +59,46 @@ fn answers(board: &FreeCellBoard) -> String {
         None => text += "\n-\n",
     }
     let (after, moves) = hook_chain(board).unwrap_or((board.clone(), vec![]));
-    text + &format!("{} {:016x}\n", moves.len(), after.signature)
+    text += &format!("{} {:016x}\n", moves.len(), after.signature);
+    text + &candidates_text(&hook_candidates(board))
+}
+
+// What a list of candidates shows.
+fn is_rollback(step: &FreeCellMove) -> bool {
+    matches!(step, FreeCellMove::FoundationToTableau { .. })
+}
+
+fn is_unsafe_home(board: &FreeCellBoard, step: &FreeCellMove) -> bool {
+    match step {
+        FreeCellMove::TableauToFoundation { card, .. }
+        | FreeCellMove::FreeCellToFoundation { card, .. } => !hook_safe(board, *card),
+        _ => false,
+    }
+}
+
+#[derive(Default)]
+struct Kinds {
+    kept: usize,
+    pruned: usize,
+    ties: usize,
+    unsafe_home: usize,
+}
+
+impl Kinds {
+    fn board(&mut self, board: &FreeCellBoard) {
+        let candidates = hook_candidates(board);
+        let kept = candidates
+            .iter()
+            .filter(|(step, _)| is_rollback(step))
+            .count();
+        let found = FreeCellMove::find_foundation_to_tableau(board).len();
+        self.kept += (0 < kept) as usize;
+        self.pruned += (kept < found) as usize;
+        self.ties += candidates.windows(2).any(|two| two[0].1 == two[1].1) as usize;
+        self.unsafe_home += candidates
+            .iter()
+            .any(|(step, _)| is_unsafe_home(board, step)) as usize;
+    }
 }
 
 // What has been written so far, and which boards it shows.
@@ -55,6 +109,7 @@ struct Sheet {
     boards: usize,
     endgames: usize,
     chains: usize,
+    kinds: Kinds,
 }
 
 impl Sheet {
@@ -65,6 +120,7 @@ impl Sheet {
         self.boards += 1;
         self.endgames += (board.total_foundation_count() >= 40) as usize;
         self.chains += hook_chain(board).is_some() as usize;
+        self.kinds.board(board);
     }
 }
 
@@ -129,6 +185,14 @@ fn main() {
         "40 or more home: {}; a safe chain: {}",
         sheet.endgames, sheet.chains
     );
+    let kinds = &sheet.kinds;
+    eprintln!(
+        "boards with a rollback kept: {}; with one pruned: {}; with a tie: {}; with an unsafe move home: {}",
+        kinds.kept, kinds.pruned, kinds.ties, kinds.unsafe_home
+    );
+    for shown in [kinds.kept, kinds.pruned, kinds.ties, kinds.unsafe_home] {
+        assert!(20 <= shown);
+    }
     assert!(sheet.input.len() < 60_000);
     std::fs::write(&names[0], &sheet.input).unwrap();
     std::fs::write(&names[1], &sheet.output).unwrap();

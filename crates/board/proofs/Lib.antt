@@ -1,3 +1,4 @@
+-- Laws for the crates above.
 pub mod Bits
 pub mod Marks
 pub mod Tables

@@ -6,7 +6,7 @@ use Prim.Native.Nat.{ℕ, _+_, _-_, _*_, _<_, _≤_}
 use native.Mathlib.Omega.{arith}
 use borrow.Author.Tests.{le-leb, eq-eqb, eqb-true}
 use lib.Dec.{eqb}
-use lib.ListN.{length, getD, drop, length-take, length-drop}
+use lib.ListN.{length, getD, take, drop, length-take, length-drop}
 use lib.Seq.{getD-take, getD-drop}
 use Rattle.card.specs.Words.{all, occurs, listed, concat}
 use Rattle.card.specs.Answer.{unless}
@@ -51,6 +51,13 @@ module _ (counts tableau : List ℕ) (i : ℕ) where
       getD-take (room - getD counts i 0) (drop (i * room + getD counts i 0) tableau) k 0 b
       ∙ getD-drop (i * room + getD counts i 0) tableau k 0
       ∙ ap (λ (p : ℕ). getD tableau p 0) (let q : i * room + getD counts i 0 + k ≡ i * room + (getD counts i 0 + k) = omega arith in q)
+
+-- a column as the part of the flat array that code lends
+pub column-part : (counts tableau : List ℕ) (i : ℕ) {w : ℕ} → w ≡ getD counts i 0
+    → take ((i * room + w) - i * room) (drop (i * room) tableau) ≡ columnAt counts tableau i
+unfolding columnAt
+column-part counts tableau i {w} e =
+    ap (λ (n : ℕ). take n (drop (i * room) tableau)) (let q : (i * room + w) - i * room ≡ getD counts i 0 = omega arith in q)
 
 pub column-length : {counts tableau : List ℕ} → GoodColumns counts tableau → (i : ℕ) → i < 8 → length (columnAt counts tableau i) ≡ getD counts i 0
 column-length {counts} {tableau} g i h = column-long counts tableau i (g .full) h (g .within i h)

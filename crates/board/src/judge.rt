@@ -6,7 +6,7 @@ ghost use Prim.Native.Nat.{_*_};
 ghost use Rattle.card.specs.Words.{every, all, concat, listed};
 ghost use Rattle.card.specs.Card.{isCard};
 ghost use Rattle.board.specs.Table.{cardsOn};
-ghost use Rattle.board.specs.Judged.{isCell, noneTwice, judged};
+ghost use Rattle.board.specs.Judged.{noneTwice, judged};
 ghost use Rattle.board.specs.Record.{room, atMost, isZero, spareAt, examined};
 ghost use Rattle.board.specs.Refusal.{examinedTold};
 ghost use Rattle.board.specs.Inner.{isKind, Marks, GoodCells, GoodPiles, Parts, partAt, Sized};

@@ -2,7 +2,7 @@
 // that no card is missing.
 ghost use mathlib.Core.Path.{_≡_};
 ghost use mathlib.Core.Bool.{true};
-ghost use mathlib.Core.List.{_∷_, [], _++_};
+ghost use mathlib.Core.List.{_∷_, []};
 ghost use Prim.Native.Nat.{_<_, _≤_, _^_};
 ghost use Rattle.card.specs.Words.{all, concat, listed};
 ghost use Rattle.card.specs.Card.{isCard};

@@ -1,6 +1,5 @@
 -- A child of a fair table: its moves are legal, there is at least one, and its table is fair.
-use mathlib.Core.Path.{_≡_, refl, ap, _∙_, subst}
-use mathlib.Core.List.{_∷_}
+use mathlib.Core.Path.{_≡_, refl, sym, ap, _∙_, subst}
 use Prim.Native.Nat.{_+_, _≤_}
 use native.Mathlib.Omega.{arith}
 use lib.ListN.{length}
@@ -16,7 +15,7 @@ use Rattle.play.specs.Change.{Becomes, Ready}
 use Rattle.play.proofs.Playing.{shows-fair}
 use Rattle.replay.specs.Played.{afterMoves, Legal}
 use Rattle.replay.proofs.Stepping.{became, sound-after}
-use Rattle.replay.proofs.Legal.{legal-fair}
+use Rattle.replay.proofs.Legal.{after-next, legal-fair}
 use Rattle.safe.specs.Chain.{chain}
 use Rattle.safe.specs.Asked.{Chains}
 use Rattle.safe.specs.declared.Chained.{Chained}
@@ -53,9 +52,10 @@ module _ {b : Board} {m : Move} (r : Ready b m) {next : Board} (e : Becomes next
     few-moves = let h = chain-most (shown next) (shows-fair next-sound) in let q = d .moves in omega arith
 
     pub bears : Bears b m (c .moves + 1) (c .board)
-    unfolding childMoves childTable afterMoves
+    unfolding childMoves childTable
     bears =
         record {
           many = let q = d .moves in let s = ap (λ (t : Table). length (chain t)) (e .shows) in omega arith;
-          becomes = d .board ∙ ap (λ (t : Table). boardOf (afterMoves t (chain t))) (e .shows);
+          becomes = d .board ∙ ap (λ (t : Table). boardOf (afterMoves t (chain t))) (e .shows)
+              ∙ ap boardOf (sym (after-next (shown b) m (chain (afterMove (shown b) m))));
         }

@@ -4,12 +4,11 @@ use mathlib.Core.Bool.{Bool, true}
 use mathlib.Core.List.{List, [], _∷_, _++_, append-assoc}
 use Prim.Native.Nat.{ℕ, zero, suc, _+_, _-_, _*_, _<_, _≤_}
 use native.Mathlib.Nat.{not-suc-le-zero}
-use native.Mathlib.Numerals.{add-one}
 use native.Mathlib.Omega.{arith}
 use lib.ListN.{length, take, drop}
 use lib.Seq.{take-at, drop-append-add}
 use Rattle.card.specs.Words.{listed}
-use Rattle.card.proofs.Words.{listed-more, listed-same}
+use Rattle.card.proofs.Words.{listed-same}
 use Rattle.board.specs.Record.{shown}
 use Rattle.board.specs.Inner.{Sound}
 use Rattle.board.specs.declared.Board.{Board}
@@ -22,8 +21,8 @@ use Rattle.generate.specs.Found.{gather}
 use Rattle.generate.specs.Asked.{bytesOf, written, Adds}
 use Rattle.generate.proofs.Writing.{record-long, adds-long}
 use Rattle.safe.specs.Safe.{chosen}
-use Rattle.candidates.specs.Inner.{recordAt, moveAt, movesIn, Records, Holds}
-use Rattle.candidates.proofs.Trying.{Playable, AllPlayable}
+use Rattle.candidates.specs.Inner.{recordAt, moveAt, movesIn, Holds}
+use Rattle.candidates.proofs.Trying.{AllPlayable}
 
 -- five bytes from place k * 5 on are record k
 record-part : (bytes : List ℕ) (k : ℕ) → take (k * 5 + 5 - k * 5) (drop (k * 5) bytes) ≡ recordAt bytes k

@@ -1,17 +1,16 @@
 -- Of some records those whose moves meet a test are written on.
-use mathlib.Core.Path.{_≡_, refl, sym, ap, ap₂, _∙_, subst}
+use mathlib.Core.Path.{_≡_, refl, sym, ap, _∙_, subst}
 use mathlib.Core.Bool.{Bool, true, false, cond}
 use mathlib.Core.List.{List, [], _∷_, _++_}
-use Prim.Native.Nat.{ℕ, zero, suc, _+_, _-_, _*_, _<_, _≤_}
+use Prim.Native.Nat.{ℕ, zero, suc, _+_, _*_, _≤_}
 use native.Mathlib.Omega.{arith}
 use lib.ListN.{length}
 use Rattle.card.specs.Words.{listed}
-use Rattle.card.specs.Answer.{Answer, given, refused, unless}
-use Rattle.board.specs.Record.{shown}
+use Rattle.card.specs.Answer.{given, refused}
 use Rattle.board.specs.declared.Board.{Board}
-use Rattle.moves.specs.Move.{sayable}
 use Rattle.moves.specs.Record.{possible, moveOf, moveAsked, moveTold}
 use Rattle.moves.specs.declared.Move.{Move}
+use Rattle.moves.proofs.Saying.{asked-possible}
 use Rattle.moves.specs.declared.Decoded.{Decoded}
 use Rattle.moves.specs.declared.Decoded.the-variants.{Is, Impossible}
 use Rattle.play.specs.Change.{Ready}
@@ -19,14 +18,10 @@ use Rattle.generate.specs.Found.{gather}
 use Rattle.generate.specs.Asked.{Adds}
 use Rattle.generate.proofs.Writing.{adds-none, adds-same}
 use Rattle.safe.specs.Safe.{chosen}
-use Rattle.safe.proofs.Choosing.{chosen-append}
-use Rattle.candidates.specs.Inner.{recordAt, moveAt, movesIn}
+use Rattle.safe.proofs.Choosing.{chosen-one, chosen-append}
+use Rattle.candidates.specs.Inner.{moveAt, movesIn}
 
 -- ---- the move of a possible record
-
-asked-possible : (bytes : List ℕ) → possible bytes ≡ true → moveAsked bytes ≡ given (moveOf bytes)
-unfolding moveAsked
-asked-possible bytes p = ap (λ (ok : Bool). unless ok 30 (given (moveOf bytes))) p
 
 module _ (bytes : List ℕ) (p : possible bytes ≡ true) {d : Decoded} (e : moveTold d ≡ moveAsked bytes) where
   pub told-move : {m : Move} → d ≡ Is m → m ≡ moveOf bytes
@@ -45,12 +40,10 @@ module _ (bytes : List ℕ) (p : possible bytes ≡ true) {d : Decoded} (e : mov
 
 module _ (p : Move → Bool) (m : Move) where
   chosen-yes : p m ≡ true → chosen p (m ∷ []) ≡ m ∷ []
-  unfolding chosen
-  chosen-yes e = rw e
+  chosen-yes e = chosen-one p m true ∙ ap (λ (r : Bool). cond r (m ∷ []) []) e
 
   chosen-no : p m ≡ false → chosen p (m ∷ []) ≡ []
-  unfolding chosen
-  chosen-no e = rw e
+  chosen-no e = chosen-one p m true ∙ ap (λ (r : Bool). cond r (m ∷ []) []) e
 
   module _ {n : Move} (q : n ≡ m) where
     pub kept-room : (at lent : ℕ) → p n ≡ true → (at + length (chosen p (m ∷ []))) * 5 ≤ lent → (at + 1) * 5 ≤ lent

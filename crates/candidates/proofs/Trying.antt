@@ -1,9 +1,9 @@
 -- Every candidate can be said and is allowed, and there are at most 836.
-use mathlib.Core.Path.{_≡_, refl, sym, ap, ap₂, _∙_, subst}
+use mathlib.Core.Path.{_≡_, refl, sym, ap, _∙_, subst}
 use mathlib.Core.Bool.{Bool, true, false, cond, not}
 use mathlib.Core.List.{List, [], _∷_, _++_}
-use mathlib.Core.Logic.{_⊎_, inl, inr}
-use Prim.Native.Nat.{ℕ, suc, _+_, _≤_}
+use mathlib.Core.Logic.{inl, inr}
+use Prim.Native.Nat.{suc, _+_, _≤_}
 use native.Mathlib.Omega.{arith}
 use lib.Dec.{leb}
 use lib.Signed.{leZ}
@@ -19,9 +19,10 @@ use Rattle.generate.specs.declared.Way.{Way}
 use Rattle.generate.specs.declared.Way.the-variants.{ColumnToColumn, ColumnToHome, ColumnToCell, CellToColumn, CellToHome, HomeToColumn}
 use Rattle.generate.proofs.Members.{found-allowed, found-said}
 use Rattle.generate.proofs.Sizes.{most-found}
+use Rattle.score.specs.Weights.{ENDGAME_UNSAFE_FOUNDATION_THRESHOLD}
 use Rattle.safe.specs.Safe.{chosen, isSafe, homeMoves}
 use Rattle.priority.specs.Priority.{priorityOn}
-use Rattle.candidates.specs.Candidates.{ENDGAME_UNSAFE_FOUNDATION_THRESHOLD, worthwhile, isUnsafe, lateMoves, tried, ranked, inOrder, candidates}
+use Rattle.candidates.specs.Candidates.{worthwhile, isUnsafe, lateMoves, tried, ranked, inOrder, candidates}
 
 -- ---- moves that can be played
 

@@ -1,11 +1,11 @@
 -- When a move is worth trying, test by test; when its card is safe; what is tried late.
-use mathlib.Core.Path.{_≡_, refl, sym, ap, ap₂, _∙_}
-use mathlib.Core.Bool.{Bool, true, false, cond, not, _||_}
+use mathlib.Core.Path.{_≡_, sym, ap, ap₂, _∙_}
+use mathlib.Core.Bool.{Bool, true, not}
 use mathlib.Core.List.{List, []}
 use Prim.Native.Nat.{ℕ, _+_, _*_, _<_, _≤_}
 use native.Mathlib.Omega.{arith}
 use borrow.Author.Tests.{lt-ltb, le-ltb, le-leb, lt-leb}
-use lib.Dec.{leb, ltb}
+use lib.Dec.{ltb}
 use lib.ListN.{length}
 use Rattle.card.specs.Card.{isCard, isValue, codeOf}
 use Rattle.card.specs.declared.Card.{Card}
@@ -15,17 +15,18 @@ use Rattle.board.specs.Table.{Table}
 use Rattle.board.specs.declared.Board.{Board}
 use Rattle.questions.specs.Questions.{homeCount}
 use Rattle.questions.proofs.Asking.{shown-foundation}
-use Rattle.moves.specs.Move.{card, sayable}
+use Rattle.moves.specs.Move.{card}
 use Rattle.moves.specs.Play.{afterMove}
 use Rattle.moves.specs.declared.Move.{Move}
 use Rattle.moves.proofs.Records.{said-value}
 use Rattle.play.specs.Change.{Ready}
 use Rattle.generate.specs.Asked.{Adds}
 use Rattle.generate.proofs.Writing.{adds-same}
+use Rattle.score.specs.Weights.{ENDGAME_UNSAFE_FOUNDATION_THRESHOLD}
 use Rattle.score.specs.Features.{featuresOf}
 use Rattle.score.specs.declared.Features.{Features}
 use Rattle.safe.specs.Safe.{safe, chosen, isSafe, homeMoves}
-use Rattle.candidates.specs.Candidates.{ENDGAME_UNSAFE_FOUNDATION_THRESHOLD, better, worthwhile, isUnsafe, lateMoves}
+use Rattle.candidates.specs.Candidates.{better, worthwhile, isUnsafe, lateMoves}
 use Rattle.candidates.specs.Inner.{meets}
 use Rattle.candidates.specs.declared.Test.{Test}
 use Rattle.candidates.specs.declared.Test.the-variants.{Safe, Unsafe, Worthwhile}

@@ -1,7 +1,6 @@
 -- The moves that the search tries on a board, the best first.
 use mathlib.Core.Bool.{Bool, cond, not, _||_}
 use mathlib.Core.List.{List, [], _∷_, _++_}
-use Prim.Native.Nat.{ℕ}
 use lib.Dec.{leb, ltb}
 use lib.Signed.{leZ}
 use Rattle.board.specs.Table.{Table}
@@ -10,14 +9,11 @@ use Rattle.moves.specs.Play.{afterMove}
 use Rattle.moves.specs.declared.Move.{Move}
 use Rattle.generate.specs.Found.{found}
 use Rattle.generate.specs.declared.Way.the-variants.{ColumnToColumn, ColumnToCell, CellToColumn, HomeToColumn}
+use Rattle.score.specs.Weights.{ENDGAME_UNSAFE_FOUNDATION_THRESHOLD}
 use Rattle.score.specs.Features.{featuresOf}
 use Rattle.score.specs.declared.Features.{Features}
 use Rattle.safe.specs.Safe.{chosen, isSafe, homeMoves}
 use Rattle.priority.specs.Priority.{priorityOn}
-
--- from so many cards home on, unsafe moves home are tried too
-abbrev pub ENDGAME_UNSAFE_FOUNDATION_THRESHOLD : ℕ
-ENDGAME_UNSAFE_FOUNDATION_THRESHOLD = 40
 
 -- features change for the better: more can go home at once, fewer low cards are blocked, or a run is longer
 unfoldable pub better : Features → Features → Bool

@@ -1,5 +1,5 @@
 -- The child that a candidate makes: the candidate, and the whole safe chain after it.
-use mathlib.Core.List.{List, [], _∷_}
+use mathlib.Core.List.{List, _∷_}
 use Rattle.board.specs.Table.{Table}
 use Rattle.moves.specs.Play.{afterMove}
 use Rattle.moves.specs.declared.Move.{Move}

@@ -23,8 +23,7 @@ use generate::Way;
 use moves::Decoded;
 use moves::Move;
 use score::Features;
-
-const ENDGAME_UNSAFE_FOUNDATION_THRESHOLD: usize = 40;
+use score::weights;
 
 // Features change for the better.
 fn is_better(before: Features, after: Features) -> bool
@@ -214,7 +213,7 @@ fn late_moves_at(
     requires { ⌜ (at + length (lateMoves (shown b))) * 5 ≤ length (now out) ⌝ }
     ensures { λ r. ⌜ Adds (now (out .entry)) (now (out .exit)) at r (lateMoves (shown b)) ⌝ }
 {
-    if before.home < ENDGAME_UNSAFE_FOUNDATION_THRESHOLD {
+    if before.home < weights::ENDGAME_UNSAFE_FOUNDATION_THRESHOLD {
         return at;
     }
     choose(Test::Unsafe, b, before, list, n, out, at)

@@ -27,6 +27,11 @@ unfolding sum
 sum-same f g zero h = refl
 sum-same f g (suc n) h = let e = sum-same f g n (λ k l. h k (omega arith)) in omega (arith, h n (omega arith))
 
+pub sum-most : (f g : ℕ → ℕ) (n : ℕ) → ((k : ℕ) → k < n → f k ≤ g k) → sum n f ≤ sum n g
+unfolding sum
+sum-most f g zero h = omega arith
+sum-most f g (suc n) h = omega (arith, sum-most f g n (λ k l. h k (omega arith)), h n (omega arith))
+
 pub sum-add : (f g : ℕ → ℕ) (n : ℕ) → sum n (λ k. f k + g k) ≡ sum n f + sum n g
 unfolding sum
 sum-add f g zero = refl

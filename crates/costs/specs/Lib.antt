@@ -1,3 +1,4 @@
+-- Read these in this order.
 pub mod Entries
 pub mod CostIn
 pub mod Table

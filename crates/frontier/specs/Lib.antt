@@ -1,3 +1,4 @@
+-- Read these in this order.
 pub mod Heap
 pub mod Inner
 pub mod Packing

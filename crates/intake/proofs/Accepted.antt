@@ -11,7 +11,7 @@ use Rattle.card.specs.Words.{all, occurs, listed, concat, sum}
 use Rattle.card.specs.Answer.{Answer, given, refused, unless}
 use Rattle.card.specs.Card.{isCard}
 use Rattle.card.specs.Pack.{cardAt}
-use Rattle.card.proofs.Words.{all-at, all-by, all-concat, every-by, length-listed, getD-listed, occurs-listed, occurs-concat, singles, singles-listed}
+use Rattle.card.proofs.Words.{all-at, all-by, all-concat, every-by, length-listed, getD-listed, occurs-listed, occurs-concat}
 use Rattle.card.proofs.Sums.{sum-same}
 use Rattle.card.proofs.Answers.{given-by}
 use Rattle.board.specs.Table.{Table}
@@ -22,7 +22,7 @@ use Rattle.board.specs.declared.Board.{Board}
 use Rattle.board.proofs.Tables.{good-piles}
 use Rattle.board.proofs.Soundness.{sound, fair}
 use Rattle.board.proofs.Counting.{whole-pack}
-use Rattle.board.proofs.Records.{Laid, fine-of-record, sized-of-record}
+use Rattle.board.proofs.Records.{Laid, listed-back, fine-of-record, sized-of-record}
 use Rattle.board.proofs.Fitting.{fits, bare-fair}
 use Rattle.intake.specs.Image.{joining, columnsIn, judgedWith, framed, versioned, bodied, imageRead}
 use Rattle.intake.specs.Deal.{rows, dealtColumn, dealt, dealAsked}
@@ -115,7 +115,7 @@ module _ (deck : List ℕ) (full : length deck ≡ 52) where
       ∙ shuffled (here x)
       ∙ ap (λ (n : ℕ). sum n (here x)) (sym full)
       ∙ sym (occurs-listed x (length deck) (λ k. getD deck k 0))
-      ∙ ap (occurs x) (sym (singles-listed (λ k. getD deck k 0) (length deck)) ∙ singles deck)
+      ∙ ap (occurs x) (listed-back deck (length deck) refl)
 
   module _ (cards : all isCard deck ≡ true) (once : noneTwice deck ≡ true) where
     dealt-cards : all isCard (concat (listed 8 (dealtColumn deck))) ≡ true

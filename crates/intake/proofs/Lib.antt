@@ -1,4 +1,5 @@
-pub mod Filling
+-- Laws for the functions, and for the crates above (Accepted, Unique).
+pub mod Parts
 pub mod Walking
 pub mod Imaging
 pub mod Dealing

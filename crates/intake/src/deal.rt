@@ -1,7 +1,6 @@
 // Dealing a deck of 52.
 ghost use mathlib.Core.Path.{_≡_};
 ghost use Prim.Native.Nat.{_<_};
-ghost use lib.ListN.{length};
 ghost use Rattle.card.specs.Words.{listed};
 ghost use Rattle.intake.specs.Deal.{dealAsked};
 ghost use Rattle.intake.specs.Handed.{Hands};

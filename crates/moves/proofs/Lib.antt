@@ -1,3 +1,4 @@
+-- Laws for the crates above.
 pub mod Records
 pub mod Saying
 pub mod Keeping

@@ -119,6 +119,10 @@ said-of-record r byte e =
     (second (targetAllows (getD r 0 0) (getD r 2 0) (getD r 4 0)) _ goal)
 
 -- the move that some bytes ask for
+pub asked-possible : (r : List ℕ) → possible r ≡ true → moveAsked r ≡ given (moveOf r)
+unfolding moveAsked
+asked-possible r e = ap (λ (ok : Bool). unless ok 30 (given (moveOf r))) e
+
 pub said-asked : (r : List ℕ) {m : Move} → getD r 3 0 ≤ 255 → given m ≡ moveAsked r → sayable m ≡ true
 unfolding moveAsked
 said-asked r {m} byte e =
@@ -145,6 +149,4 @@ possible-said (FreeCellToFoundation i c) e =
 possible-said (FoundationToTableau s d c) e = both (code-is-card c (said-value _ e)) (both (said-from _ e) (both (said-to _ e) refl))
 
 pub asked-said : (m : Move) → sayable m ≡ true → moveAsked (recordOf m) ≡ given m
-unfolding moveAsked
-asked-said m e =
-    ap (λ (ok : Bool). unless ok 30 (given (moveOf (recordOf m)))) (possible-said m e) ∙ ap (λ (n : Move). given n) (move-of-record m)
+asked-said m e = asked-possible (recordOf m) (possible-said m e) ∙ ap (λ (n : Move). given n) (move-of-record m)

@@ -1,1 +1,2 @@
+-- What the functions' proofs share.
 mod Minus

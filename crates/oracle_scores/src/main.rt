@@ -1,17 +1,22 @@
-// Reads board images from standard input and writes their features, scores, token and safe play, for comparison with the
-// original (compare/scores.rs).
+// Reads board images from standard input and writes their features, scores, token, safe play and candidates, for comparison
+// with the original (compare/scores.rs).
+ghost use Prim.Native.Nat.{_≤_};
 use board::Board;
 use board::Examined;
 use board::Refusal;
 use card::Card;
 use card::Coded;
 use moves::Move;
+use questions::CountAnswer;
 use rules::YesNo;
 use safe::SafeAnswer;
 use safe::SafeMove;
 use score::FeaturesAnswer;
 use score::ScoreAnswer;
 use signature::SignatureAnswer;
+
+// What lent room holds before a call.
+const MARK: u8 = 7;
 
 fn wide(x: u8) -> u64 {
     x as u64
@@ -21,10 +26,14 @@ fn refusal(why: Refusal) {
     io::print_decimal(1, wide(board::number(why)));
 }
 
+fn space() {
+    io::write_all(1, b" ");
+}
+
 // A number, with a space after it.
 fn number(n: usize) {
     io::print_decimal(1, n as u64);
-    io::write_all(1, b" ");
+    space();
 }
 
 fn line_end() {
@@ -74,13 +83,36 @@ fn beginning(s: &[u8], n: usize) {
     }
 }
 
+fn one_if(so: bool) -> usize
+    ensures { λ r. ⌜ r ≤ 1 ⌝ }
+{
+    if so {
+        return 1;
+    }
+    0
+}
+
+// How many bytes of lent room from a place on are as they were.
+fn kept(room: &[u8], from: usize) -> usize {
+    let mut n = 0;
+    let mut k = from;
+    while k < room.len() {
+        n += one_if(room[k] == MARK);
+        k += 1;
+    }
+    n
+}
+
+// The token, and how many bytes of its room it left alone.
 fn token(b: Board) {
-    let mut out = [7u8; 40];
+    let mut out = [MARK; 40];
     match score::progress_token(b, &mut out) {
-        questions::CountAnswer::Count(n) => {
+        CountAnswer::Count(n) => {
             beginning(&out, n);
+            space();
+            io::print_decimal(1, kept(&out, n) as u64);
         }
-        questions::CountAnswer::Refused(why) => refusal(why),
+        CountAnswer::Refused(why) => refusal(why),
     }
     line_end();
 }
@@ -159,16 +191,67 @@ fn chain(b: Board) {
     line_end();
 }
 
+fn bytes(s: &[u8]) {
+    let mut k = 0;
+    while k < s.len() {
+        byte(wide(s[k]));
+        k += 1;
+    }
+}
+
+// A candidate's record and its priority.
+fn candidate(b: Board, record: &[u8]) {
+    bytes(record);
+    space();
+    score(priority::priority_of(b, record));
+    line_end();
+}
+
+// The first n records of the room.
+fn records(b: Board, room: &[u8], n: usize) {
+    let mut at = 0;
+    let mut k = 0;
+    while k < n {
+        let left = room.len() - at;
+        if left < 5 {
+            return;
+        }
+        let end = at + 5;
+        candidate(b, &room[at..end]);
+        at = end;
+        k += 1;
+    }
+}
+
+// How many candidates, how many bytes of the room after their records are as they were; then the candidates in order.
+fn candidates(b: Board) {
+    let mut out = [MARK; 4190];
+    match candidates::candidates_of(b, &mut out) {
+        CountAnswer::Count(n) => {
+            number(n);
+            let written = n % 838 * 5;
+            io::print_decimal(1, kept(&out, written) as u64);
+            line_end();
+            records(b, &out, n);
+        }
+        CountAnswer::Refused(why) => {
+            refusal(why);
+            line_end();
+        }
+    }
+}
+
 fn of_board(b: Board) {
     features(b);
     score(score::heuristic_of(b));
-    io::write_all(1, b" ");
+    space();
     score(score::progress_of(b));
     line_end();
     token(b);
     safe_cards(b);
     first_safe(b);
     chain(b);
+    candidates(b);
 }
 
 fn of_image(image: &[u8]) {

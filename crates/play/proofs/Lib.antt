@@ -1,3 +1,4 @@
+-- Laws for the crates above.
 pub mod Changing
 pub mod Playing
 pub mod Ending

@@ -17,26 +17,7 @@ use moves::Decoded;
 use moves::Move;
 use score::Features;
 use score::ScoreAnswer;
-
-const PRIORITY_FOUNDATION_GAIN_WEIGHT: usize = 1200;
-
-const PRIORITY_OPTIONS_GAIN_WEIGHT: usize = 180;
-
-const PRIORITY_EMPTY_COL_GAIN_WEIGHT: usize = 220;
-
-const PRIORITY_FREE_FREED_WEIGHT: usize = 100;
-
-const PRIORITY_RUN_GAIN_WEIGHT: usize = 20;
-
-const PRIORITY_LOW_UNBLOCK_WEIGHT: usize = 160;
-
-const LOOKAHEAD_FOUNDATION_OPTIONS_WEIGHT: usize = 90;
-
-const LOOKAHEAD_EMPTY_COLUMNS_WEIGHT: usize = 25;
-
-const LOOKAHEAD_FREE_USED_PENALTY: usize = 12;
-
-const LOOKAHEAD_LOW_BLOCKED_PENALTY: usize = 8;
+use score::weights;
 
 // The kind of a move.
 fn way_of(m: Move) -> Way
@@ -56,11 +37,11 @@ fn base_adds(way: Way) -> usize
     ensures { λ r. ⌜ r ≡ baseAdds way ⌝ }
 {
     match way {
-        Way::ColumnToColumn => 220,
-        Way::ColumnToHome => 900,
+        Way::ColumnToColumn => weights::PRIORITY_BASE_TABLEAU_TO_TABLEAU,
+        Way::ColumnToHome => weights::PRIORITY_BASE_TO_FOUNDATION,
         Way::ColumnToCell => 0,
-        Way::CellToColumn => 260,
-        Way::CellToHome => 900,
+        Way::CellToColumn => weights::PRIORITY_BASE_FREE_TO_TABLEAU,
+        Way::CellToHome => weights::PRIORITY_BASE_TO_FOUNDATION,
         Way::HomeToColumn => 0,
     }
 }
@@ -71,10 +52,10 @@ fn base_takes(way: Way) -> usize
     match way {
         Way::ColumnToColumn => 0,
         Way::ColumnToHome => 0,
-        Way::ColumnToCell => 60,
+        Way::ColumnToCell => weights::PRIORITY_BASE_TABLEAU_TO_FREE,
         Way::CellToColumn => 0,
         Way::CellToHome => 0,
-        Way::HomeToColumn => 250,
+        Way::HomeToColumn => weights::PRIORITY_BASE_FROM_FOUNDATION,
     }
 }
 
@@ -85,14 +66,14 @@ fn priority_adds(way: Way, before: Features, after: Features) -> usize
     ensures { λ r. ⌜ r ≡ priorityAdds way before after ⌝ }
 {
     let base = base_adds(way);
-    let home = after.home * PRIORITY_FOUNDATION_GAIN_WEIGHT;
-    let options = after.immediate * PRIORITY_OPTIONS_GAIN_WEIGHT;
-    let empty = after.empty * PRIORITY_EMPTY_COL_GAIN_WEIGHT;
-    let used = after.used * PRIORITY_FREE_FREED_WEIGHT;
-    let run = after.longest * PRIORITY_RUN_GAIN_WEIGHT;
-    let low = before.blocked * PRIORITY_LOW_UNBLOCK_WEIGHT;
-    let ahead = after.immediate * LOOKAHEAD_FOUNDATION_OPTIONS_WEIGHT;
-    let columns = after.empty * LOOKAHEAD_EMPTY_COLUMNS_WEIGHT;
+    let home = after.home * weights::PRIORITY_FOUNDATION_GAIN_WEIGHT;
+    let options = after.immediate * weights::PRIORITY_OPTIONS_GAIN_WEIGHT;
+    let empty = after.empty * weights::PRIORITY_EMPTY_COL_GAIN_WEIGHT;
+    let used = after.used * weights::PRIORITY_FREE_FREED_WEIGHT;
+    let run = after.longest * weights::PRIORITY_RUN_GAIN_WEIGHT;
+    let low = before.blocked * weights::PRIORITY_LOW_UNBLOCK_WEIGHT;
+    let ahead = after.immediate * weights::LOOKAHEAD_FOUNDATION_OPTIONS_WEIGHT;
+    let columns = after.empty * weights::LOOKAHEAD_EMPTY_COLUMNS_WEIGHT;
     base + home + options + empty + used + run + low + ahead + columns
 }
 
@@ -103,14 +84,14 @@ fn priority_takes(way: Way, before: Features, after: Features) -> usize
     ensures { λ r. ⌜ r ≡ priorityTakes way before after ⌝ }
 {
     let base = base_takes(way);
-    let home = before.home * PRIORITY_FOUNDATION_GAIN_WEIGHT;
-    let options = before.immediate * PRIORITY_OPTIONS_GAIN_WEIGHT;
-    let empty = before.empty * PRIORITY_EMPTY_COL_GAIN_WEIGHT;
-    let used = before.used * PRIORITY_FREE_FREED_WEIGHT;
-    let run = before.longest * PRIORITY_RUN_GAIN_WEIGHT;
-    let low = after.blocked * PRIORITY_LOW_UNBLOCK_WEIGHT;
-    let ahead = after.used * LOOKAHEAD_FREE_USED_PENALTY;
-    let blocked = after.blocked * LOOKAHEAD_LOW_BLOCKED_PENALTY;
+    let home = before.home * weights::PRIORITY_FOUNDATION_GAIN_WEIGHT;
+    let options = before.immediate * weights::PRIORITY_OPTIONS_GAIN_WEIGHT;
+    let empty = before.empty * weights::PRIORITY_EMPTY_COL_GAIN_WEIGHT;
+    let used = before.used * weights::PRIORITY_FREE_FREED_WEIGHT;
+    let run = before.longest * weights::PRIORITY_RUN_GAIN_WEIGHT;
+    let low = after.blocked * weights::PRIORITY_LOW_UNBLOCK_WEIGHT;
+    let ahead = after.used * weights::LOOKAHEAD_FREE_USED_PENALTY;
+    let blocked = after.blocked * weights::LOOKAHEAD_LOW_BLOCKED_PENALTY;
     base + home + options + empty + used + run + low + ahead + blocked
 }
 

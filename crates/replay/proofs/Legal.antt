@@ -24,7 +24,15 @@ use Rattle.replay.specs.Line.{oneMore, goOn, lineFrom}
 use Rattle.replay.specs.Played.{afterMoves, Legal, recordsOf}
 use Rattle.replay.proofs.Stepping.{made-yes, fair-laid, sound-after, fair-then}
 
--- ---- a list after a list
+-- ---- a move, and a list after a list
+
+pub after-none : (t : Table) → afterMoves t [] ≡ t
+unfolding afterMoves
+after-none t = refl
+
+pub after-next : (t : Table) (m : Move) (ms : List Move) → afterMoves t (m ∷ ms) ≡ afterMoves (afterMove t m) ms
+unfolding afterMoves
+after-next t m ms = refl
 
 pub after-append : (ms ns : List Move) (t : Table) → afterMoves t (ms ++ ns) ≡ afterMoves (afterMoves t ms) ns
 unfolding afterMoves

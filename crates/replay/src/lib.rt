@@ -3,7 +3,6 @@ ghost use mathlib.Core.Path.{_≡_};
 ghost use mathlib.Core.Bool.{true};
 ghost use Prim.Native.Nat.{_%_};
 ghost use lib.ListN.{length};
-ghost use Rattle.card.specs.Answer.{given};
 ghost use Rattle.board.specs.Record.{shown};
 ghost use Rattle.board.specs.Inner.{Sound};
 ghost use Rattle.moves.specs.Move.{sayable};

@@ -1,5 +1,5 @@
 -- The safe chain: legal, of at most 52 moves, it keeps the cards, and no safe move is left after it.
-use mathlib.Core.Path.{_≡_, refl, sym, ap, subst}
+use mathlib.Core.Path.{_≡_, refl, sym, ap, _∙_, subst}
 use mathlib.Core.List.{List, [], _∷_}
 use Prim.Native.Nat.{ℕ, zero, suc, _+_, _≤_}
 use native.Mathlib.Omega.{arith}
@@ -14,7 +14,7 @@ use Rattle.moves.specs.declared.Move.{Move}
 use Rattle.moves.proofs.Fairness.{Fair}
 use Rattle.replay.specs.Played.{afterMoves, Legal}
 use Rattle.replay.proofs.Stepping.{fair-sound}
-use Rattle.replay.proofs.Legal.{legal-fair, legal-cards}
+use Rattle.replay.proofs.Legal.{after-none, after-next, legal-fair, legal-cards}
 use Rattle.safe.specs.Safe.{firstSafe}
 use Rattle.safe.specs.Chain.{andOn, chainOf, chain}
 use Rattle.safe.specs.declared.SafeMove.{SafeMove}
@@ -41,16 +41,14 @@ record Good (n : ℕ) (t : Table) (ms : List Move) : Type 0 where
   ends : 52 ≤ homeCount (t .foundation) + n → firstSafe (afterMoves t ms) ≡ NoMove
 
 good-none : (n : ℕ) (t : Table) → (52 ≤ homeCount (t .foundation) + n → firstSafe t ≡ NoMove) → Good n t []
-unfolding afterMoves
-good-none n t h = record { legal = tt; most = omega arith; ends = h }
+good-none n t h = record { legal = tt; most = omega arith; ends = λ k. ap firstSafe (after-none t) ∙ h k }
 
 good-more : (n : ℕ) (t : Table) {m : Move} {ms : List Move} → firstSafe t ≡ Is m → Fair t → Good n (afterMove t m) ms → Good (suc n) t (m ∷ ms)
-unfolding afterMoves
-good-more n t e f g =
+good-more n t {m} {ms} e f g =
     record {
       legal = (safe-said t e f, (safe-allowed t e, g .legal));
       most = let l = g .most in omega arith;
-      ends = λ h. g .ends (let o = one-more-home t e f in omega arith);
+      ends = λ h. ap firstSafe (after-next t m ms) ∙ g .ends (let o = one-more-home t e f in omega arith);
     }
 
 good : (n : ℕ) (t : Table) → Fair t → Good n t (chainOf n t)

@@ -24,6 +24,7 @@ use Rattle.play.specs.Change.{Becomes, Ready}
 use Rattle.play.proofs.Playing.{shows-fair}
 use Rattle.replay.specs.Played.{afterMoves}
 use Rattle.replay.proofs.Stepping.{became, sound-after}
+use Rattle.replay.proofs.Legal.{after-none, after-next}
 use Rattle.safe.specs.Safe.{safe, firstSafe}
 use Rattle.safe.specs.Chain.{chainOf, chain}
 use Rattle.safe.specs.Asked.{safeAsked, Chains}
@@ -52,13 +53,12 @@ chain-ready {b} s e = record { sound = s; said = safe-said (shown b) e (shows-fa
 module _ {b now : Board} {moves : ℕ} (r : Chaining b now moves) where
   pub chaining-turn : {m : Move} {next : Board} → moves < 52 → firstSafe (shown now) ≡ Is m → Becomes next (afterMove (shown now) m)
       → Chaining b next (moves + 1)
-  unfolding afterMoves
   chaining-turn {m} {next} h e d =
       record {
         sound = let k = chain-ready (r .sound) e in subst Sound (became d) (sound-after now (r .sound) m (k .said) (k .allows));
         upto = omega arith;
         many = let a = r .many in let l = ap length step in omega arith;
-        left = r .left ∙ ap (afterMoves (shown now)) step ∙ ap (λ (t : Table). afterMoves t rest) (sym (d .shows));
+        left = r .left ∙ ap (afterMoves (shown now)) step ∙ after-next (shown now) m rest ∙ ap (λ (t : Table). afterMoves t rest) (sym (d .shows));
       }
     where
       rest : List Move
@@ -71,12 +71,11 @@ module _ {b now : Board} {moves : ℕ} (r : Chaining b now moves) where
           ∙ ap (λ (t : Table). m ∷ chainOf (52 - (moves + 1)) t) (sym (d .shows))
 
   done : chainOf (52 - moves) (shown now) ≡ [] → Chains fine b (record { said = WellFormed; moves = moves; board = now })
-  unfolding afterMoves
   done e =
       record {
         said = refl;
         moves = let a = r .many in let l = ap length e in omega arith;
-        board = sym (ap boardOf (r .left ∙ ap (afterMoves (shown now)) e) ∙ record-of-shown now (r .sound .inColumns));
+        board = sym (ap boardOf (r .left ∙ ap (afterMoves (shown now)) e ∙ after-none (shown now)) ∙ record-of-shown now (r .sound .inColumns));
       }
 
   pub chaining-stop : firstSafe (shown now) ≡ NoMove → Chains fine b (record { said = WellFormed; moves = moves; board = now })

@@ -2,12 +2,11 @@
 use mathlib.Core.Path.{_≡_, refl, subst}
 use mathlib.Core.Bool.{true}
 use mathlib.Core.Logic.{_⊎_, ⊎-elim}
-use Prim.Native.Nat.{ℕ, suc, _≤_}
+use Prim.Native.Nat.{suc, _≤_}
 use native.Mathlib.Omega.{arith}
-use Rattle.card.specs.Words.{sum}
 use Rattle.board.specs.Table.{Table}
-use Rattle.board.specs.Inner.{GoodPiles}
 use Rattle.questions.specs.Questions.{homeCount}
+use Rattle.questions.proofs.Totals.{home-52}
 use Rattle.moves.specs.Move.{from, to, sayable}
 use Rattle.moves.specs.Play.{allowed, afterMove, homeward}
 use Rattle.moves.specs.declared.Move.{Move}
@@ -77,14 +76,6 @@ module _ (t : Table) {m : Move} (e : firstSafe t ≡ Is m) where
 
 -- ---- the 52 cards
 
-most-home : {foundation : ℕ → ℕ} → ((s : ℕ) → suc s ≤ 4 → foundation s ≤ 13) → sum 4 foundation ≤ 52
-unfolding sum
-most-home {foundation} h = omega (arith, h 0 (omega arith), h 1 (omega arith), h 2 (omega arith), h 3 (omega arith))
-
-home-52 : (t : Table) → GoodPiles (t .foundation) → homeCount (t .foundation) ≤ 52
-unfolding homeCount
-home-52 t g = most-home (λ s h. g .within s h)
-
 -- no move is left once all are home
 pub all-home : (t : Table) → Fair t → 52 ≤ homeCount (t .foundation) → firstSafe t ≡ NoMove
 all-home t f h = by-first (firstSafe t) refl
@@ -93,5 +84,5 @@ all-home t f h = by-first (firstSafe t) refl
     by-first NoMove e = e
     by-first (Is m) e =
         let n = one-more-home t e f in
-        let k = home-52 (afterMove t m) (safe-fair t e f .piles) in
+        let k = home-52 (afterMove t m .foundation) (safe-fair t e f .piles) in
         absurd (let z : ⊥ = omega arith in z)

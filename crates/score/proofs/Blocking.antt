@@ -18,7 +18,7 @@ use Rattle.card.proofs.Sums.{sum-part, sum-ones, sum-add, sum-same}
 use Rattle.card.proofs.Codes.{card-is, at-place}
 use Rattle.board.specs.Record.{columnAt}
 use Rattle.board.specs.Inner.{GoodColumns}
-use Rattle.board.proofs.Soundness.{column-length}
+use Rattle.board.proofs.Soundness.{column-part, column-length}
 use Rattle.score.specs.Features.{blockedIn, blockedOn}
 
 -- ---- card by card
@@ -57,19 +57,14 @@ blocked-little (x ∷ l) h = let i = blocked-little l (omega arith) in let m = b
 -- ---- columns
 
 module _ {counts tableau : List ℕ} (g : GoodColumns counts tableau) (i w : ℕ) (h : i < 8) (e : w ≡ getD counts i 0) where
-  -- a column as the part of the tableau that the code lends
-  column-is : take (i * 52 + w - i * 52) (drop (i * 52) tableau) ≡ columnAt counts tableau i
-  unfolding columnAt
-  column-is = ap (λ (n : ℕ). take n (drop (i * 52) tableau)) (let q : i * 52 + w - i * 52 ≡ getD counts i 0 = omega arith in q)
-
   column-52 : length (columnAt counts tableau i) ≤ 52
   column-52 = let n = column-length g i h in let b = g .within i h in omega arith
 
   pub column-short : length (take (i * 52 + w - i * 52) (drop (i * 52) tableau)) ≤ 52
-  column-short = subst (λ (l : List ℕ). length l ≤ 52) (sym column-is) column-52
+  column-short = subst (λ (l : List ℕ). length l ≤ 52) (sym (column-part counts tableau i e)) column-52
 
   pub column-adds : {r : ℕ} → r ≡ blockedIn (take (i * 52 + w - i * 52) (drop (i * 52) tableau)) → r ≡ blockedIn (columnAt counts tableau i)
-  column-adds q = q ∙ ap blockedIn column-is
+  column-adds q = q ∙ ap blockedIn (column-part counts tableau i e)
 
   pub column-little : blockedIn (columnAt counts tableau i) ≤ 2704
   column-little = let c = column-52 in let b = blocked-little (columnAt counts tableau i) c in omega arith

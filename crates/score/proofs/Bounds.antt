@@ -20,7 +20,8 @@ use Rattle.board.proofs.Judging.{good-shape}
 use Rattle.board.proofs.Soundness.{passed, sound-fine, sound-shape}
 use Rattle.board.proofs.Counting.{at-most-52}
 use Rattle.board.proofs.Fitting.{cards-on}
-use Rattle.questions.specs.Questions.{homeCount, emptyCells}
+use Rattle.questions.specs.Questions.{emptyCells}
+use Rattle.questions.proofs.Totals.{home-52}
 use Rattle.rules.specs.Run.{runLength}
 use Rattle.rules.proofs.Laying.{run-13, empty-at-most}
 use Rattle.score.specs.Features.{lastGoesHome, immediateOn, blockedIn, blockedOn, imbalanceOf, cellsUsed, longestRun, featuresOf, Bounded}
@@ -29,11 +30,6 @@ use Rattle.score.proofs.Nexts.{at-most-once, lists-next, four-next}
 use Rattle.score.proofs.Blocking.{blocked-concat, blocked-546}
 
 -- ---- foundations and cells
-
-home-most : (foundation : List ℕ) → GoodPiles foundation → homeCount foundation ≤ 52
-unfolding homeCount sum
-home-most foundation g =
-    omega (arith, g .within 0 (omega arith), g .within 1 (omega arith), g .within 2 (omega arith), g .within 3 (omega arith))
 
 imbalance-most : (foundation : List ℕ) → GoodPiles foundation → imbalanceOf foundation ≤ 13
 unfolding imbalanceOf
@@ -146,7 +142,7 @@ module _ (b : Board) (s : Sound b) where
   unfolding featuresOf shown
   bounded =
       record {
-        home = home-most (b .foundation) (s .inPiles);
+        home = home-52 (b .foundation) (s .inPiles);
         immediate = immediate-most;
         blocked = blocked-most-546;
         imbalance = imbalance-most (b .foundation) (s .inPiles);

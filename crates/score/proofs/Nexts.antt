@@ -11,16 +11,11 @@ use Rattle.card.specs.Words.{sum, all, occurs, listed, concat}
 use Rattle.card.specs.Card.{isCard}
 use Rattle.card.specs.Pack.{cardAt, placeOf}
 use Rattle.card.proofs.Words.{first, second, true-or-not, all-at, every-at, all-concat, occurs-here, occurs-other, occurs-none, occurs-append, occurs-concat}
-use Rattle.card.proofs.Sums.{sum-part, sum-swap, sum-ones, sum-add}
+use Rattle.card.proofs.Sums.{sum-most, sum-part, sum-swap, sum-ones, sum-add}
 use Rattle.card.proofs.Codes.{card-is, at-place, place-below}
 use Rattle.rules.specs.Fit.{homeTakes}
 use Rattle.score.specs.Features.{lastGoesHome}
 use Rattle.score.proofs.Homing.{last-none, last-some}
-
-sum-most : (f g : ℕ → ℕ) (n : ℕ) → ((k : ℕ) → k < n → f k ≤ g k) → sum n f ≤ sum n g
-unfolding sum
-sum-most f g zero h = omega arith
-sum-most f g (suc n) h = omega (arith, sum-most f g n (λ k l. h k (omega arith)), h n (omega arith))
 
 occurs-there : (l : List ℕ) (k : ℕ) → k < length l → 1 ≤ occurs (getD l k 0) l
 occurs-there [] k h = absurd (let z : ⊥ = omega arith in z)

@@ -10,7 +10,7 @@ use questions::CountAnswer;
 pub mod measure;
 pub mod scores;
 pub mod token;
-mod weights;
+pub mod weights;
 
 pub struct Features {
     pub home: usize,

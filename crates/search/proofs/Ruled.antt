@@ -1,12 +1,12 @@
 -- FreeCell keeps the laws that the theorems rest on: well-formed tables are good, and legal moves lead to the table after them.
-use mathlib.Core.Path.{_≡_, refl, sym, ap, _∙_, subst}
+use mathlib.Core.Path.{_≡_, sym, ap, _∙_, subst}
 use mathlib.Core.List.{List, [], _∷_, _++_}
 use mathlib.Core.Logic.{inl, inr}
 use Rattle.board.specs.Table.{Table}
 use Rattle.moves.specs.declared.Move.{Move}
 use Rattle.moves.proofs.Fairness.{Fair}
 use Rattle.replay.specs.Played.{afterMoves, Legal}
-use Rattle.replay.proofs.Legal.{after-append, legal-append}
+use Rattle.replay.proofs.Legal.{after-none, after-append, legal-append}
 use Rattle.generate.specs.Found.{isIn}
 use Rattle.candidates.specs.Candidates.{candidates}
 use Rattle.candidates.proofs.Trying.{Playable, one-of-all, all-candidates}
@@ -20,8 +20,7 @@ pub record Reaches (t : Table) (l : List Move) (u : Table) : Type 0 where
   pub there : afterMoves t l ≡ u
 
 pub none-reaches : (t : Table) → Reaches t [] t
-unfolding afterMoves
-none-reaches t = record { legal = tt; there = refl }
+none-reaches t = record { legal = tt; there = after-none t }
 
 pub both-reach : {t u v : Table} {l m : List Move} → Reaches t l u → Reaches u m v → Reaches t (l ++ m) v
 both-reach {t} {u} {v} {l} {m} r q =

@@ -5,7 +5,8 @@ use Prim.Native.Nat.{ℕ, _+_, _≤_}
 use native.Mathlib.Omega.{arith}
 use lib.ListN.{length, getD}
 use Rattle.card.specs.Words.{listed, concat}
-use Rattle.card.proofs.Words.{listed-more, concat-none, concat-more, singles, singles-listed}
+use Rattle.card.proofs.Words.{listed-more, concat-none, concat-more}
+use Rattle.board.proofs.Records.{listed-back}
 use Rattle.signature.specs.Fnv.{fnvStep, fnvFrom}
 
 pub hash-append : (h : ℕ) (s t : List ℕ) → fnvFrom h (s ++ t) ≡ fnvFrom (fnvFrom h s) t
@@ -16,10 +17,6 @@ hash-append h (x ∷ s) t = hash-append (fnvStep h x) s t
 pub hash-next : (h x : ℕ) (s : List ℕ) → fnvFrom h (x ∷ s) ≡ fnvFrom (fnvStep h x) s
 unfolding fnvFrom
 hash-next h x s = refl
-
--- a list is its elements
-pub listed-all : (s : List ℕ) → listed (length s) (λ k. getD s k 0) ≡ s
-listed-all s = sym (singles-listed (λ k. getD s k 0) (length s)) ∙ singles s
 
 -- ---- a loop over words
 
@@ -36,7 +33,7 @@ module _ (h : ℕ) (f : ℕ → ℕ) where
 pub hash-all : (h : ℕ) (s : List ℕ) {now k : ℕ} → k ≤ length s → length s ≤ k → now ≡ fnvFrom h (listed k (λ i. getD s i 0)) → now ≡ fnvFrom h s
 hash-all h s {now} {k} a b e =
     e ∙ ap (λ (n : ℕ). fnvFrom h (listed n (λ i. getD s i 0))) (let q : k ≡ length s = omega arith in q)
-    ∙ ap (fnvFrom h) (listed-all s)
+    ∙ ap (fnvFrom h) (listed-back s (length s) refl)
 
 -- ---- a loop over lists of words
 

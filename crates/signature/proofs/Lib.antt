@@ -4,7 +4,6 @@ pub mod Product
 pub mod Hashing
 pub mod Examples
 pub mod Fours
-pub mod Filling
 pub mod Columns
 pub mod Homes
 pub mod Joined

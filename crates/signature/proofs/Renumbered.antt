@@ -10,11 +10,11 @@ use Rattle.card.specs.Words.{listed, sum}
 use Rattle.card.proofs.Words.{occurs-listed}
 use Rattle.card.proofs.Sums.{sum-same, sum-one, sum-swap}
 use Rattle.board.specs.Table.{Table}
+use Rattle.board.proofs.Records.{listed-back}
 use Rattle.signature.specs.Fnv.{fnv}
 use Rattle.order.specs.Rising.{rising}
 use Rattle.signature.specs.Signed.{columnHashes, wordsOf, signed, signatureOf, Renumbers, renumbered}
 use Rattle.order.proofs.Counted.{same-rising}
-use Rattle.signature.proofs.Hashing.{listed-all}
 use Rattle.signature.proofs.Columns.{hashes-are}
 
 module _ {n : ℕ} {p q : ℕ → ℕ} (r : Renumbers n p q) where
@@ -45,9 +45,6 @@ module _ {n : ℕ} {p q : ℕ → ℕ} (r : Renumbers n p q) where
       same-rising (listed n (λ i. g (p i))) (listed n g)
       (λ x. occurs-listed x n (λ i. g (p i)) ∙ sum-renumbered (λ k. cond (eqb x (g k)) 1 0) ∙ sym (occurs-listed x n g))
 
-four-listed : (l : List ℕ) → length l ≡ 4 → listed 4 (λ i. getD l i 0) ≡ l
-four-listed l e = ap (λ (n : ℕ). listed n (λ i. getD l i 0)) (sym e) ∙ listed-all l
-
 -- only the rising lists are hashed
 pub signed-alike : (foundation cells cells′ hashes hashes′ : List ℕ) → rising cells ≡ rising cells′ → rising hashes ≡ rising hashes′
     → signed foundation cells hashes ≡ signed foundation cells′ hashes′
@@ -59,5 +56,5 @@ pub signature-renumbered : (t : Table) {p p′ q q′ : ℕ → ℕ} → length 
 unfolding signatureOf renumbered columnHashes
 signature-renumbered t {p} {p′} {q} {q′} four c d =
     signed-alike (t .foundation) _ _ _ _
-    (rising-renumbered c (λ i. getD (t .cells) i 0) ∙ ap rising (four-listed (t .cells) four))
+    (rising-renumbered c (λ i. getD (t .cells) i 0) ∙ ap rising (listed-back (t .cells) 4 four))
     (ap rising (sym (hashes-are (λ i. getD (t .columns) (q i) []))) ∙ rising-renumbered d (λ i. fnv (getD (t .columns) i [])))

@@ -2,7 +2,7 @@
 use mathlib.Core.Path.{ap, _∙_}
 use native.Mathlib.Omega.{arith}
 use Rattle.signature.specs.Fnv.{fnv}
-use Rattle.signature.proofs.Columns.{column-part}
+use Rattle.board.proofs.Soundness.{column-part}
 use borrow.Author.Needs.{needs}
 use Rattle.signature.proofs.hash_at.Statement.{statement}
 use Rattle.signature.proofs.hash_at.Tie as tie

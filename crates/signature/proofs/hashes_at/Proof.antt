@@ -1,9 +1,9 @@
 -- What `hashes_at` leaves to be shown: the array is filled hash by hash.
 use mathlib.Core.Path.{refl, _∙_}
 use Prim.Native.Nat.{_-_}
+use Rattle.card.proofs.Filling.{Filled, filled-none, filled-more, filled-end}
 use Rattle.board.specs.Record.{columnAt}
 use Rattle.signature.specs.Fnv.{fnv}
-use Rattle.signature.proofs.Filling.{Filled, filled-none, filled-more, filled-end}
 use Rattle.signature.proofs.Columns.{hashes-are}
 use borrow.Author.Needs.{needs}
 use Rattle.signature.proofs.hashes_at.Statement.{statement}

@@ -1,5 +1,4 @@
 -- What `back_moves_at` leaves to be shown: the moves back are written, and chosen from.
-use mathlib.Core.Path.{_≡_}
 use native.Mathlib.Omega.{arith}
 use Rattle.board.specs.Record.{shown}
 use Rattle.play.proofs.Playing.{shows-fair}

@@ -1,11 +1,8 @@
 -- What `choose` leaves to be shown: one record more is looked at.
-use mathlib.Core.Path.{_≡_, sym, ap, subst}
-use mathlib.Core.List.{List, [], _∷_}
-use Prim.Native.Nat.{ℕ, _+_, _-_, _*_, _≤_}
+use mathlib.Core.List.{[], _∷_}
+use Prim.Native.Nat.{_-_}
 use native.Mathlib.Omega.{arith}
-use lib.ListN.{length}
 use Rattle.board.specs.Record.{shown}
-use Rattle.moves.specs.declared.Move.{Move}
 use Rattle.generate.proofs.Writing.{Walked, walk-start, walk-long, walk-room, walk-on, walk-end, adds-same}
 use Rattle.safe.specs.Safe.{chosen}
 use Rattle.candidates.specs.Inner.{meets, moveAt}

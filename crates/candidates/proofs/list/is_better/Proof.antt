@@ -1,5 +1,4 @@
 -- What `is_better` leaves to be shown: one test after the other.
-use native.Mathlib.Omega.{arith}
 use Rattle.candidates.proofs.Worth.{more-options, less-blocked, longer-run}
 use Rattle.candidates.proofs.list.is_better.Statement.{statement}
 use Rattle.candidates.proofs.list.is_better.Tie as tie

@@ -1,7 +1,8 @@
 -- What `lay_out` leaves to be shown: the array is filled place by place.
+use mathlib.Core.Path.{refl}
 use Prim.Native.Nat.{_-_}
+use Rattle.card.proofs.Filling.{Filled, filled-none, filled-more, filled-end}
 use Rattle.intake.specs.Inside.{deckCode}
-use Rattle.intake.proofs.Filling.{Filled, filled-none, filled-more, filled-end}
 use borrow.Author.Needs.{needs}
 use Rattle.intake.proofs.deal.lay_out.Statement.{statement}
 use Rattle.intake.proofs.deal.lay_out.Tie as tie
@@ -13,7 +14,7 @@ abbrev μ-loop : tie.MeasureT-loop
 μ-loop deck tableau₀ p₀ tableau p = 416 - p
 
 loop-holds : tie.Need-loop-holds Inv-loop μ-loop
-loop-holds c = filled-none (deckCode (c .before .args .deck .now)) 416
+loop-holds c = filled-none (deckCode (c .before .args .deck .now)) refl
 
 dealt-code-requires : tie.Need-dealt-code-requires Inv-loop μ-loop
 dealt-code-requires c κs = search needs
@@ -29,11 +30,11 @@ loop-less c = search needs
 
 loop-again : tie.Need-loop-again Inv-loop μ-loop
 loop-again c =
-    filled-more (deckCode (c .before .before .before .before .args .deck .now)) 416 (c .dealt-code .result) (c .before .before .loop .inv) (c .before .loop-test .taken) (c .dealt-code .ensures)
+    filled-more (deckCode (c .before .before .before .before .args .deck .now)) (c .before .before .loop .inv) (c .before .loop-test .taken) (c .dealt-code .ensures)
 
 returns : tie.Need-returns Inv-loop μ-loop
 returns c =
-    filled-end (deckCode (c .before .before .before .args .deck .now)) 416 (c .before .loop .inv) (c .loop-test .left)
+    filled-end (deckCode (c .before .before .before .args .deck .now)) (c .before .loop .inv) (c .loop-test .left)
 
 pub lay-out-spec : {M : Type 1} → statement M
 lay-out-spec =

@@ -1,7 +1,8 @@
 -- What `fill` leaves to be shown: the array is filled place by place.
+use mathlib.Core.Path.{refl}
 use Prim.Native.Nat.{_-_}
+use Rattle.card.proofs.Filling.{Filled, filled-none, filled-more, filled-end}
 use Rattle.intake.specs.Inside.{partCode}
-use Rattle.intake.proofs.Filling.{Filled, filled-none, filled-more, filled-end}
 use borrow.Author.Needs.{needs}
 use Rattle.intake.proofs.image.fill.Statement.{statement}
 use Rattle.intake.proofs.image.fill.Tie as tie
@@ -14,7 +15,7 @@ abbrev μ-loop : tie.MeasureT-loop
 
 loop-holds : tie.Need-loop-holds Inv-loop μ-loop
 loop-holds c =
-    filled-none (partCode (c .before .args .starts .now) (c .before .args .counts .now) (c .before .args .codes .now)) 416
+    filled-none (partCode (c .before .args .starts .now) (c .before .args .counts .now) (c .before .args .codes .now)) refl
 
 code-at-requires : tie.Need-code-at-requires Inv-loop μ-loop
 code-at-requires c κs = (c .before .before .before .pre, c .loop-test .taken)
@@ -30,11 +31,11 @@ loop-less c = search needs
 
 loop-again : tie.Need-loop-again Inv-loop μ-loop
 loop-again c =
-    filled-more (partCode (c .before .before .before .before .args .starts .now) (c .before .before .before .before .args .counts .now) (c .before .before .before .before .args .codes .now)) 416 (c .code-at .result) (c .before .before .loop .inv) (c .before .loop-test .taken) (c .code-at .ensures)
+    filled-more (partCode (c .before .before .before .before .args .starts .now) (c .before .before .before .before .args .counts .now) (c .before .before .before .before .args .codes .now)) (c .before .before .loop .inv) (c .before .loop-test .taken) (c .code-at .ensures)
 
 returns : tie.Need-returns Inv-loop μ-loop
 returns c =
-    filled-end (partCode (c .before .before .before .args .starts .now) (c .before .before .before .args .counts .now) (c .before .before .before .args .codes .now)) 416 (c .before .loop .inv) (c .loop-test .left)
+    filled-end (partCode (c .before .before .before .args .starts .now) (c .before .before .before .args .counts .now) (c .before .before .before .args .codes .now)) (c .before .loop .inv) (c .loop-test .left)
 
 pub fill-spec : {M : Type 1} → statement M
 fill-spec =

@@ -1,5 +1,5 @@
 -- What `four_at` leaves to be shown: four elements in a row are the part.
-use Rattle.intake.proofs.Filling.{take-four}
+use Rattle.intake.proofs.Parts.{take-four}
 use borrow.Author.Needs.{needs}
 use Rattle.intake.proofs.image.four_at.Statement.{statement}
 use Rattle.intake.proofs.image.four_at.Tie as tie

@@ -7,7 +7,7 @@ use borrow.Author.Tests.{not-true, not-false}
 use Rattle.card.specs.Answer.{given}
 use Rattle.board.specs.declared.Board.{Board}
 use Rattle.board.proofs.Tables.{good-piles}
-use Rattle.intake.proofs.Filling.{four-long}
+use Rattle.intake.proofs.Parts.{four-long}
 use Rattle.intake.proofs.Imaging.{hands-no, hands-yes, board-of-parts, body-short, body-piles, body-columns, columns-refused, columns-bad, columns-good}
 use borrow.Author.Needs.{needs}
 use Rattle.intake.proofs.image.read_body.Statement.{statement}

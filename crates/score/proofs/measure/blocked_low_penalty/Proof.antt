@@ -1,9 +1,9 @@
 -- What `blocked_low_penalty` leaves to be shown: a loop that adds the eight columns up.
-use mathlib.Core.Path.{_≡_, refl, ap, _∙_}
+use mathlib.Core.Path.{_≡_, sym, ap, _∙_}
 use Prim.Native.Nat.{ℕ, _-_, _*_, _≤_}
 use native.Mathlib.Omega.{arith}
 use Rattle.card.specs.Words.{sum}
-use Rattle.card.proofs.Sums.{sum-next}
+use Rattle.card.proofs.Sums.{sum-none, sum-next}
 use Rattle.board.specs.Record.{columnAt}
 use Rattle.score.specs.Features.{blockedIn}
 use Rattle.score.proofs.Blocking.{column-short, column-adds, column-little, blocked-columns}
@@ -18,8 +18,7 @@ abbrev μ-loop : tie.MeasureT-loop
 μ-loop counts tableau n₀ i₀ n i = 8 - i
 
 loop-holds : tie.Need-loop-holds Inv-loop μ-loop
-unfolding sum
-loop-holds c = (search needs, search needs, refl)
+loop-holds c = (search needs, search needs, sym (sum-none _))
 
 mul-first : tie.Need-mul-first Inv-loop μ-loop
 mul-first c = search needs

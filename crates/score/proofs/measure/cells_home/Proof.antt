@@ -1,12 +1,12 @@
 -- What `cells_home` leaves to be shown: a loop that adds the four cells up.
-use mathlib.Core.Path.{_≡_, refl, ap, _∙_}
+use mathlib.Core.Path.{_≡_, sym, ap, _∙_}
 use mathlib.Core.Bool.{cond}
 use mathlib.Core.List.{[], _∷_}
 use Prim.Native.Nat.{ℕ, _-_, _≤_}
 use lib.ListN.{getD}
 use native.Mathlib.Omega.{arith}
 use Rattle.card.specs.Words.{sum}
-use Rattle.card.proofs.Sums.{sum-next}
+use Rattle.card.proofs.Sums.{sum-none, sum-next}
 use Rattle.board.specs.Table.{held}
 use Rattle.score.specs.Features.{lastGoesHome}
 use Rattle.score.proofs.Blocking.{by-most}
@@ -21,8 +21,7 @@ abbrev μ-loop : tie.MeasureT-loop
 μ-loop foundation cells n₀ i₀ n i = 4 - i
 
 loop-holds : tie.Need-loop-holds Inv-loop μ-loop
-unfolding sum
-loop-holds c = (search needs, search needs, refl)
+loop-holds c = (search needs, search needs, sym (sum-none _))
 
 cell-home-requires : tie.Need-cell-home-requires Inv-loop μ-loop
 cell-home-requires c κs = (c .before .before .pre .0, (c .before .before .pre .1, c .loop-test .taken))

@@ -1,10 +1,10 @@
 -- What `columns_home` leaves to be shown: a loop that adds the eight columns up.
-use mathlib.Core.Path.{_≡_, refl, ap, _∙_}
+use mathlib.Core.Path.{_≡_, sym, ap, _∙_}
 use mathlib.Core.Bool.{cond}
 use Prim.Native.Nat.{ℕ, _-_, _≤_}
 use native.Mathlib.Omega.{arith}
 use Rattle.card.specs.Words.{sum}
-use Rattle.card.proofs.Sums.{sum-next}
+use Rattle.card.proofs.Sums.{sum-none, sum-next}
 use Rattle.board.specs.Record.{columnAt}
 use Rattle.score.specs.Features.{lastGoesHome}
 use Rattle.score.proofs.Blocking.{by-most}
@@ -19,8 +19,7 @@ abbrev μ-loop : tie.MeasureT-loop
 μ-loop foundation counts tableau n₀ i₀ n i = 8 - i
 
 loop-holds : tie.Need-loop-holds Inv-loop μ-loop
-unfolding sum
-loop-holds c = (search needs, search needs, refl)
+loop-holds c = (search needs, search needs, sym (sum-none _))
 
 column-home-requires : tie.Need-column-home-requires Inv-loop μ-loop
 column-home-requires c κs = (c .before .before .pre .0, (c .before .before .pre .1, c .loop-test .taken))

@@ -1,4 +1,4 @@
--- An array whose first places are filled.
+-- An array filled place by place.
 use mathlib.Core.Path.{_≡_, refl, sym, ap, _∙_}
 use mathlib.Core.List.{List}
 use Prim.Native.Nat.{ℕ, _+_, _<_, _≤_}
@@ -6,9 +6,10 @@ use native.Mathlib.Numerals.{add-one}
 use native.Mathlib.Omega.{arith}
 use lib.ListN.{length, take, set, length-set}
 use lib.Seq.{take-all, take-suc-set}
 use Rattle.card.specs.Words.{listed}
 use Rattle.card.proofs.Words.{listed-more}
 
+-- the first i of n places are filled by f
 pub record Filled (f : ℕ → ℕ) (n : ℕ) (s : List ℕ) (i : ℕ) : Type 0 where
   pub within : i ≤ n
   pub long : length s ≡ n
