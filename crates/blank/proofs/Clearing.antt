@@ -1,0 +1,61 @@
+-- A loop that clears a slice place by place, whatever its width; and what a cleared slice reads.
+use mathlib.Core.Path.{_≡_, refl, ap, _∙_}
+use mathlib.Core.List.{List, _++_, append-nil}
+use Prim.Native.Nat.{ℕ, zero, suc, _+_, _<_, _≤_}
+use native.Mathlib.Omega.{arith}
+use borrow.Author.Fill.{fill-more}
+use lib.ListN.{length, getD, set, drop, replicate, length-append, length-drop, length-set, drop-of-length-le}
+use Rattle.blank.specs.Blank.{blank, blankTo}
+
+length-zeros : (n : ℕ) → length (replicate {A = ℕ} n 0) ≡ n
+length-zeros zero = refl
+length-zeros (suc n) = ap suc (length-zeros n)
+
+pub blank-long : (old : List ℕ) → length (blank old) ≡ length old
+unfolding blank
+blank-long old = length-zeros (length old)
+
+-- what stands nowhere reads 0 as well
+pub blank-reads : (old : List ℕ) (i : ℕ) → getD (blank old) i 0 ≡ 0
+unfolding blank
+blank-reads old i = zeros (length old) i
+  where
+    zeros : (n k : ℕ) → getD (replicate {A = ℕ} n 0) k 0 ≡ 0
+    zeros zero k = refl
+    zeros (suc n) zero = refl
+    zeros (suc n) (suc k) = zeros n k
+
+pub blank-to-long : (old : List ℕ) (n : ℕ) → n ≤ length old → length (blankTo old n) ≡ length old
+unfolding blankTo
+blank-to-long old n h =
+    length-append (replicate n 0) (drop n old) ∙ (let z = length-zeros n in let d = length-drop n old in omega arith)
+
+-- all of it
+pub blank-whole : (old : List ℕ) → blankTo old (length old) ≡ blank old
+unfolding blankTo blank
+blank-whole old =
+    ap (λ (l : List ℕ). replicate (length old) 0 ++ l) (drop-of-length-le old {i = length old} (omega arith)) ∙ append-nil (replicate (length old) 0)
+
+-- ---- what the loop knows: the first i places are clear
+
+pub record Clearing (old : List ℕ) (n : ℕ) (now : List ℕ) (i : ℕ) : Type 0 where
+  pub upto : i ≤ n
+  pub long : length now ≡ length old
+  pub so-far : now ≡ blankTo old i
+
+pub clearing-start : (old : List ℕ) (n : ℕ) → Clearing old n old 0
+unfolding blankTo
+clearing-start old n = record { upto = omega arith; long = refl; so-far = refl }
+
+module _ {old : List ℕ} {n : ℕ} {now : List ℕ} {i : ℕ} (c : Clearing old n now i) where
+  pub clearing-turn : n ≤ length old → i < n → Clearing old n (set now i 0) (i + 1)
+  unfolding blankTo
+  clearing-turn fits h =
+      record {
+        upto = omega arith;
+        long = length-set now i 0 ∙ c .long;
+        so-far = ap (λ (l : List ℕ). set l i 0) (c .so-far) ∙ fill-more i 0 old (omega arith);
+      }
+
+  pub clearing-end : n ≤ i → now ≡ blankTo old n
+  clearing-end h = c .so-far ∙ ap (blankTo old) (let u = c .upto in let q : i ≡ n = omega arith in q)

@@ -1,0 +1,82 @@
+-- The child of a born node: its table is fair, and its numbers fit a node's words and a key.
+use mathlib.Core.Path.{_≡_, sym, ap, _∙_, subst}
+use Prim.Native.Nat.{ℕ, _+_, _<_, _≤_}
+use native.Mathlib.Omega.{arith}
+use lib.ListN.{length}
+use Rattle.board.specs.Table.{Table}
+use Rattle.board.specs.Record.{shown, boardOf}
+use Rattle.board.specs.declared.Board.{Board}
+use Rattle.board.proofs.Records.{shown-of-record}
+use Rattle.moves.specs.Move.{count}
+use Rattle.moves.specs.declared.Move.{Move}
+use Rattle.moves.proofs.Fairness.{Fair}
+use Rattle.play.specs.Change.{Ready}
+use Rattle.play.proofs.Playing.{shows-fair}
+use Rattle.replay.proofs.Stepping.{fair-laid, fair-sound}
+use Rattle.frontier.specs.Packing.{packed}
+use Rattle.frontier.proofs.Packed.{packed-fits}
+use Rattle.score.specs.Features.{Bounded, featuresOf}
+use Rattle.score.specs.Scores.{heuristicKey}
+use Rattle.score.proofs.Bounds.{bounded}
+use Rattle.score.proofs.Keys.{heuristic-adds-most}
+use Rattle.candidates.specs.Children.{childMoves, childTable}
+use Rattle.candidates.specs.Inner.{Bears}
+use Rattle.candidates.proofs.Trying.{Playable}
+use Rattle.candidates.proofs.Bearing as bearing
+use Rattle.nodes.specs.Step.{costAt}
+use Rattle.nodes.specs.Line.{lineTo, tableTo}
+use Rattle.nodes.proofs.Reaching.{node-fair, few-cards}
+use Rattle.machine.specs.declared.Room.{Room}
+use Rattle.machine.specs.declared.Counts.{Counts}
+use Rattle.machine.specs.Memory.{Memory}
+use Rattle.machine.specs.Machine.{Machine}
+
+-- a heuristic has room in a key
+pub hope-small : (t : Table) → Fair t → heuristicKey (featuresOf t) < 32768
+unfolding heuristicKey
+hope-small t f =
+    let b = subst (λ (u : Table). Bounded (featuresOf u)) (shown-of-record t (fair-laid t f)) (bounded (boardOf t) (fair-sound t f)) in
+    let h = heuristic-adds-most (featuresOf t) b in
+    omega arith
+
+-- the child of a born node by a move that can be played there: its table and its cost
+pub record Child (t : Table) (m : Memory) (c : Counts) (parent : ℕ) (move : Move) (cost : ℕ) (child : Table) : Type 0 where
+  pub older : parent < c .born
+  pub playable : Playable (tableTo t (m .nodes) parent) move
+  pub table : child ≡ childTable (tableTo t (m .nodes) parent) move
+  pub adds : cost ≡ length (lineTo t (m .nodes) parent) + length (childMoves (tableTo t (m .nodes) parent) move)
+
+module _ {t : Table} {r : Room} {m : Memory} {c : Counts} (k : Machine t r m c) {parent : ℕ} (older : parent < c .born) where
+  -- as the code makes it, from a board that shows the parent's table
+  pub child-by : {b board : Board} {move : Move} {moves cost : ℕ} → Ready b move → shown b ≡ tableTo t (m .nodes) parent → Bears b move moves board
+      → cost ≡ costAt (m .nodes) parent + moves → Child t m c parent move cost (shown board)
+  child-by {b} {board} {move} ready shows bears e =
+      let p : Playable (shown b) move = record { said = ready .said; allows = ready .allows } in
+      let fair = bearing.child-fair (shown b) (shows-fair (ready .sound)) move p in
+      record {
+        older = older;
+        playable = subst (λ (u : Table). Playable u move) shows p;
+        table =
+            ap shown (bears .becomes) ∙ shown-of-record (childTable (shown b) move) (fair-laid (childTable (shown b) move) fair)
+            ∙ ap (λ (u : Table). childTable u move) shows;
+        adds =
+            let q = bears .many in
+            let s = ap (λ (u : Table). length (childMoves u move)) shows in
+            let l = k .nodes .cost parent older in
+            omega arith;
+      }
+
+module _ {t : Table} (f : Fair t) {r : Room} {m : Memory} {c : Counts} (k : Machine t r m c) {parent cost : ℕ} {move : Move} {child : Table}
+    (h : Child t m c parent move cost child) where
+  pub child-few : count move < 16
+  child-few = few-cards (node-fair (k .nodes) parent (h .older) f) (h .playable)
+
+  pub child-fair : Fair child
+  child-fair = subst Fair (sym (h .table)) (bearing.child-fair (tableTo t (m .nodes) parent) (node-fair (k .nodes) parent (h .older) f) move (h .playable))
+
+  pub key-fits : cost ≤ 200 → c .born < r .capacity
+      → packed (cost + heuristicKey (featuresOf child)) (heuristicKey (featuresOf child)) (c .born) < 18446744073709551616
+  key-fits short room =
+      let s = hope-small child child-fair in
+      let n = k .room .few in
+      packed-fits (cost + heuristicKey (featuresOf child)) (heuristicKey (featuresOf child)) (c .born) (omega arith) s (omega arith)

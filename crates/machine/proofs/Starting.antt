@@ -1,0 +1,161 @@
+-- The start: in blank memory the root is written, and the memory shows the state at the start of a search.
+use mathlib.Core.Path.{_≡_, sym, ap, ap₂, _∙_, subst}
+use mathlib.Core.Bool.{Bool, cond}
+use mathlib.Core.List.{[], _∷_}
+use Prim.Native.Nat.{ℕ, zero, suc, _+_, _<_, _≤_}
+use native.Mathlib.Omega.{arith}
+use native.Mathlib.Decide.{ℕ-discrete}
+use borrow.Author.Tests.{eq-eqb, ne-eqb}
+use lib.Dec.{eqb}
+use lib.ListN.{length, getD}
+use Rattle.board.specs.Table.{Table}
+use Rattle.order.specs.Rising.{placed}
+use Rattle.order.proofs.Placed.{placed-alone}
+use Rattle.frontier.specs.Heap as frontier
+use Rattle.frontier.specs.Packing.{packed}
+use Rattle.frontier.proofs.Bags.{bag-none}
+use Rattle.costs.specs.declared.Slot.{Slot}
+use Rattle.costs.specs.declared.Slot.the-variants as slots
+use Rattle.costs.specs.Entries.{holds, used}
+use Rattle.costs.specs.CostIn.{unknown, costIn}
+use Rattle.costs.specs.Table as costs
+use Rattle.costs.specs.Promises.{Vacant, Finds, Stores}
+use Rattle.costs.proofs.Slots.{table-none, unknown-none, slot-new}
+use Rattle.costs.proofs.Counting.{used-none, used-vacant, used-room}
+use Rattle.signature.specs.Signed.{signatureOf}
+use Rattle.score.specs.Features.{featuresOf}
+use Rattle.score.specs.Scores.{heuristicKey, progressKey}
+use Rattle.nodes.specs.Step as nodes
+use Rattle.nodes.specs.Line.{lineTo, tableTo}
+use Rattle.nodes.proofs.Climbing.{line-root, table-root}
+use Rattle.nodes.proofs.Adding.{set-long, new-slot, nodes-root}
+use Rattle.search.specs.Freecell.{freecell}
+use Rattle.search.specs.Solve.{none, some, costOf, start}
+use Rattle.machine.specs.declared.Room.{Room}
+use Rattle.machine.specs.declared.Counts.{Counts}
+use Rattle.machine.specs.Memory.{Memory, Fits}
+use Rattle.machine.specs.View.{nodeOf, keyOf, nodesBy, knownBy, stateOf}
+use Rattle.machine.specs.Machine.{told, AllKeyed, Slotted, Machine}
+use Rattle.machine.proofs.Queueing.{key-number, key-keyed}
+
+-- there is room for a node at least, and no entry is used
+pub record Blank (r : Room) (m : Memory) : Type 0 where
+  pub room : Fits r m
+  pub some : 1 ≤ r .capacity
+  pub most : r .entries ≤ 4294967296
+  pub keyed : r .entries ≤ length (m .keys)
+  pub costed : r .entries ≤ length (m .costs)
+  pub free : (i : ℕ) → i < r .entries → getD (m .costs) i 0 ≡ 0
+
+-- the root was written: its node, its entry, its key
+pub record Rooted (t : Table) (r : Room) (m new : Memory) (slot : ℕ) : Type 0 where
+  pub spot : Vacant (m .keys) (m .costs) (r .entries) (signatureOf t) slot
+  pub nodes : nodes.Puts (m .nodes) (new .nodes) 0 0 0 slot
+  pub table : Stores (m .keys) (m .costs) (new .keys) (new .costs) (r .entries) slot (signatureOf t) 0
+  pub heap : frontier.Puts (m .heap) (new .heap) 0 (packed (0 + heuristicKey (featuresOf t)) (heuristicKey (featuresOf t)) 0)
+
+-- the counts at the start
+abbrev pub begun : Table → Counts
+begun t = record { born = 1; waiting = 1; best = 0; progress = progressKey (featuresOf t); pops = 0 }
+
+-- ---- the table of costs in blank memory
+
+module _ {r : Room} {m : Memory} (b : Blank r m) where
+  pub blank-table : costs.Table (m .keys) (m .costs) (r .entries)
+  blank-table = let s = b .room .spare in table-none (m .keys) (m .costs) (r .entries) (b .free) (omega arith) (b .most) (b .keyed) (b .costed)
+
+  pub blank-unknown : (k : ℕ) → costIn (m .keys) (m .costs) (r .entries) k ≡ unknown
+  blank-unknown = unknown-none (m .keys) (m .costs) (r .entries) (b .free)
+
+  pub blank-unused : used (m .costs) (r .entries) ≡ 0
+  blank-unused = used-none (m .costs) (r .entries) (b .free)
+
+  -- a key is found to be free, and nothing else
+  module _ {k : ℕ} {s : Slot} (f : Finds (m .keys) (m .costs) (r .entries) k s) where
+    pub blank-not-held : (i : ℕ) → s ≡ slots.At i → ⊥
+    blank-not-held i e =
+        let h = f .held i e .best in
+        let u = blank-unknown k in
+        let z : _≡_ {A = ℕ} 0 1 = cc in
+        omega arith
+
+    pub blank-not-full : s ≡ slots.Full → ⊥
+    blank-not-full e = let u = blank-unused in let l = b .room .spare in used-room (omega arith) f e
+
+-- ---- the root
+
+module _ {t : Table} {r : Room} {m new : Memory} {slot : ℕ} (b : Blank r m) (w : Rooted t r m new slot) where
+  words-room : 3 ≤ length (m .nodes)
+  words-room = let l = b .room .words in let s = b .some in omega arith
+
+  root-line : length (lineTo t (new .nodes) 0) ≡ 0
+  root-line = ap length (line-root t (new .nodes))
+
+  root-table : tableTo t (new .nodes) 0 ≡ t
+  root-table = table-root t (new .nodes)
+
+  root-node : nodeOf t (new .nodes) 0 ≡ record { number = 0; line = []; board = t }
+  unfolding nodeOf
+  root-node = let l = line-root t (new .nodes) in let u = root-table in cc
+
+  root-key : packed (0 + heuristicKey (featuresOf t)) (heuristicKey (featuresOf t)) 0 ≡ keyOf t (new .nodes) 0
+  unfolding keyOf
+  root-key = let l = root-line in let u = root-table in cc
+
+  root-bag : frontier.bag (new .heap) 1 ≡ keyOf t (new .nodes) 0 ∷ []
+  root-bag = w .heap .keys ∙ ap₂ placed root-key (bag-none (m .heap)) ∙ placed-alone (keyOf t (new .nodes) 0)
+
+  root-known : knownBy t (new .nodes) 1 ≡ record { key = signatureOf t; cost = 0 } ∷ []
+  unfolding knownBy
+  root-known = let l = root-line in let u = root-table in cc
+
+  root-knows : (j : ℕ) → told (costIn (new .keys) (new .costs) (r .entries) j) ≡ costOf freecell j (knownBy t (new .nodes) 1)
+  unfolding costOf
+  root-knows j = by-key (ℕ-discrete j (signatureOf t)) ∙ sym (ap (costOf freecell j) root-known)
+    where
+      by-key : Dec (j ≡ signatureOf t) → told (costIn (new .keys) (new .costs) (r .entries) j) ≡ cond (eqb j (signatureOf t)) (some 0) none
+      by-key (yes e) =
+          ap (λ (x : ℕ). told (costIn (new .keys) (new .costs) (r .entries) x)) e ∙ ap told (w .table .best)
+          ∙ sym (ap (λ (b : Bool). cond b (some 0) none) (eq-eqb j (signatureOf t) e))
+      by-key (no d) =
+          ap told (w .table .others j d ∙ blank-unknown b j)
+          ∙ sym (ap (λ (b : Bool). cond b (some 0) none) (ne-eqb j (signatureOf t) d))
+
+  root-slot : (i : ℕ) → i < 1 → Slotted t new (r .entries) i
+  root-slot zero l =
+      let e = new-slot (w .nodes) words-room in
+      let p = w .spot .place in
+      record {
+        within = let h = p .within in omega arith;
+        own = ap₂ (λ (s : ℕ) (u : Table). holds (new .keys) (new .costs) s (signatureOf u)) e root-table ∙ slot-new (blank-table b) p (w .table);
+      }
+  root-slot (suc i) l = absurd (let z : ⊥ = omega arith in z)
+
+  pub machine-start : Machine t r new (begun t)
+  machine-start =
+      record {
+        room =
+            let o = b .room in
+            let a = set-long (w .nodes) in
+            let h = w .heap .long in
+            record { few = o .few; words = let l = o .words in omega arith; waits = let l = o .waits in omega arith; spare = o .spare };
+        nodes = nodes-root t (w .nodes) words-room;
+        within = b .some;
+        heap = w .heap .heap;
+        waits = omega arith;
+        keyed = subst (AllKeyed t (new .nodes) 1) (sym root-bag) (key-keyed t (new .nodes) 0 (omega arith), tt);
+        table = w .table .table;
+        knows = root-knows;
+        slots = root-slot;
+        used = let e = used-vacant (blank-table b) (w .table) (w .spot) in let u = blank-unused b in omega arith;
+        best = omega arith;
+        progress = ap (λ (u : Table). progressKey (featuresOf u)) (sym root-table);
+      }
+
+  root-waits : nodesBy t (new .nodes) (frontier.bag (new .heap) 1) ≡ nodeOf t (new .nodes) 0 ∷ []
+  unfolding nodesBy
+  root-waits = ap (nodesBy t (new .nodes)) root-bag ∙ ap (λ (i : ℕ). nodeOf t (new .nodes) i ∷ []) (key-number t (new .nodes) 0 (omega arith))
+
+  pub state-start : stateOf t new (begun t) ≡ start freecell t
+  unfolding stateOf start
+  state-start = let w = root-waits in let k = root-known in let n = root-node in cc

@@ -1,0 +1,61 @@
+-- What a machine's counts and numbers are good for in code: they lie within the lent memory, and fit its words.
+use mathlib.Core.Path.{_≡_}
+use mathlib.Core.Bool.{true}
+use Prim.Native.Nat.{ℕ, _+_, _*_, _<_, _≤_}
+use native.Mathlib.Omega.{arith}
+use lib.ListN.{length}
+use Rattle.board.specs.Table.{Table}
+use Rattle.costs.specs.declared.Slot.{Slot}
+use Rattle.costs.specs.declared.Slot.the-variants.{Full}
+use Rattle.costs.specs.Entries.{isUsed, used}
+use Rattle.costs.specs.Promises.{Place, Finds}
+use Rattle.costs.proofs.Entries.{held-used}
+use Rattle.costs.proofs.Counting.{used-room}
+use Rattle.signature.specs.Signed.{signatureOf}
+use Rattle.nodes.specs.Step.{slotAt, costAt}
+use Rattle.nodes.specs.Line.{tableTo}
+use Rattle.machine.specs.declared.Room.{Room}
+use Rattle.machine.specs.declared.Counts.{Counts}
+use Rattle.machine.specs.Memory.{Memory}
+use Rattle.machine.specs.Machine.{Machine}
+
+module _ {t : Table} {r : Room} {m : Memory} {c : Counts} (k : Machine t r m c) where
+  pub waiting-there : c .waiting ≤ length (m .heap)
+  waiting-there = let a = k .room .waits in let b = k .waits in let d = k .within in omega arith
+
+  -- an entry is always free, so that a place is found
+  pub spare-entry : used (m .costs) (r .entries) < r .entries
+  spare-entry = let a = k .used in let b = k .within in let d = k .room .spare in omega arith
+
+  pub never-full : {key : ℕ} {s : Slot} → Finds (m .keys) (m .costs) (r .entries) key s → s ≡ Full → ⊥
+  never-full f e = used-room spare-entry f e
+
+  pub place-fits : {key slot : ℕ} → Place (m .keys) (m .costs) (r .entries) key slot → slot < 4294967296
+  place-fits p = let a = p .within in let b = k .table .most in omega arith
+
+  -- ---- a node
+
+  module _ (i : ℕ) (born : i < c .born) where
+    pub words-there : (i + 1) * 3 ≤ length (m .nodes)
+    words-there = let a = k .nodes .linked .fits in omega arith
+
+    pub number-fits : i < 4294967296
+    number-fits = let a = k .within in let b = k .room .few in omega arith
+
+    pub entry-there : slotAt (m .nodes) i < length (m .costs)
+    entry-there = let a = k .slots i born .within in let b = k .table .costed in omega arith
+
+    pub entry-used : isUsed (m .costs) (slotAt (m .nodes) i) ≡ true
+    entry-used = held-used (m .keys) (m .costs) (slotAt (m .nodes) i) (signatureOf (tableTo t (m .nodes) i)) (k .slots i born .own)
+
+    pub cost-short : costAt (m .nodes) i ≤ 200
+    cost-short = let a = k .nodes .cost i born in let b = k .nodes .short i born in omega arith
+
+  -- ---- a node more
+
+  module _ (room : c .born < r .capacity) where
+    pub words-room : (c .born + 1) * 3 ≤ length (m .nodes)
+    words-room = let a = k .room .words in omega arith
+
+    pub heap-room : c .waiting < length (m .heap)
+    heap-room = let a = k .room .waits in let b = k .waits in omega arith

@@ -1,0 +1,31 @@
+-- What `board_of` leaves to be shown: there is room for the path, and its steps can be made.
+use Rattle.nodes.proofs.Reaching.{node-steps, node-few}
+use Rattle.nodes.proofs.Walking.{path-leads, node-board}
+use borrow.Author.Needs.{needs}
+use Rattle.nodes.proofs.path.board_of.Statement.{statement}
+use Rattle.nodes.proofs.path.board_of.Tie as tie
+
+slice-aggregate-climb : tie.Need-slice-aggregate-climb
+slice-aggregate-climb c = search needs
+
+climb-requires : tie.Need-climb-requires
+climb-requires c κs = (c .before .before .pre .1 .0 .linked, (c .before .before .pre .1 .1, node-few (c .before .before .pre .1 .0) _ (c .before .before .pre .1 .1)))
+
+slice-aggregate-play-down : tie.Need-slice-aggregate-play-down
+slice-aggregate-play-down c = search needs
+
+play-down-requires : tie.Need-play-down-requires
+play-down-requires c κs = path-leads (c .before .before .climb .ensures) (c .before .before .before .before .before .pre .0) (node-steps (c .before .before .before .before .before .pre .1 .0) _ (c .before .before .before .before .before .pre .1 .1))
+
+returns : tie.Need-returns
+returns c = (node-board _ _ _ (c .before .before .before .climb .ensures) (c .play-down .ensures .0), c .play-down .ensures .1)
+
+pub board-of-spec : {M : Type 1} → statement M
+board-of-spec =
+    tie.close
+    (tie.spec
+    slice-aggregate-climb
+    climb-requires
+    slice-aggregate-play-down
+    play-down-requires
+    returns)

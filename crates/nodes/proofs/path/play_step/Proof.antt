@@ -1,0 +1,28 @@
+-- What `play_step` leaves to be shown: the step's move is told, and the child is made of it.
+use Rattle.nodes.proofs.Walking.{step-never, step-goes, step-plays}
+use borrow.Author.Needs.{needs}
+use Rattle.nodes.proofs.path.play_step.Statement.{statement}
+use Rattle.nodes.proofs.path.play_step.Tie as tie
+
+move-in-requires : tie.Need-move-in-requires
+move-in-requires c κs = search needs
+
+enum-known-m : tie.Need-enum-known-m
+enum-known-m c = search needs
+
+enum-told : tie.Need-enum-told
+enum-told c = search needs
+
+returns : tie.Need-returns
+returns c = absurd (step-never (c .before .before .before .pre .0) (c .before .before .before .pre .1) (c .before .before .move-in .ensures) (c .enum-told .given .1))
+
+child-at-requires : tie.Need-child-at-requires
+child-at-requires c κs = step-goes (c .before .before .before .before .pre .0) (c .before .before .before .before .pre .1) (c .before .before .before .move-in .ensures) (c .before .m .given .1)
+
+returns-2 : tie.Need-returns-2
+returns-2 c = step-plays (c .before .before .before .before .before .before .pre .0) (c .before .before .before .before .before .before .pre .1) (c .before .before .before .before .before .move-in .ensures) (c .before .before .before .m .given .1) (c .before .child-at .ensures .0) (c .before .child-at .ensures .1)
+
+pub play-step-spec : {M : Type 1} → statement M
+play-step-spec =
+    tie.close
+    (tie.spec move-in-requires enum-known-m enum-told returns child-at-requires returns-2)

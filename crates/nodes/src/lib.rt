@@ -1,0 +1,3 @@
+// The nodes of the search in lent memory: three words each.
+pub mod path;
+pub mod words;
