@@ -3,7 +3,7 @@ use Prim.Native.Nat.{ℕ}
 use Rattle.card.specs.Answer.{refused}
 use Rattle.board.specs.Judged.{Verdict, fine}
 use Rattle.board.specs.declared.Refusal.{Refusal}
-use Rattle.board.specs.declared.Refusal.the-variants.{WrongLength, WrongVersion, WrongShape, NoCard, CardTwice, CardMissing, NoDeck, NoRoom, OutOfRange, WrongList}
+use Rattle.board.specs.declared.Refusal.the-variants.{WrongLength, WrongVersion, WrongShape, NoCard, CardTwice, CardMissing, NoDeck, OverBudget, NoRoom, NoNode, OutOfRange, WrongList}
 use Rattle.board.specs.declared.Examined.{Examined}
 use Rattle.board.specs.declared.Examined.the-variants.{WellFormed, Refused}
 
@@ -15,7 +15,9 @@ numberOf NoCard = 13
 numberOf CardTwice = 14
 numberOf CardMissing = 15
 numberOf NoDeck = 16
+numberOf OverBudget = 20
 numberOf NoRoom = 21
+numberOf NoNode = 22
 numberOf OutOfRange = 30
 numberOf WrongList = 31
 

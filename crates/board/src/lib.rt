@@ -24,7 +24,9 @@ pub enum Refusal {
     CardTwice,
     CardMissing,
     NoDeck,
+    OverBudget,
     NoRoom,
+    NoNode,
     OutOfRange,
     WrongList,
 }
@@ -66,7 +68,9 @@ pub fn number(why: Refusal) -> u8
         Refusal::CardTwice => 14,
         Refusal::CardMissing => 15,
         Refusal::NoDeck => 16,
+        Refusal::OverBudget => 20,
         Refusal::NoRoom => 21,
+        Refusal::NoNode => 22,
         Refusal::OutOfRange => 30,
         Refusal::WrongList => 31,
     }

@@ -25,7 +25,7 @@ use Rattle.candidates.specs.Inner.{recordAt, moveAt, movesIn, Holds}
 use Rattle.candidates.proofs.Trying.{AllPlayable}
 
 -- five bytes from place k * 5 on are record k
-record-part : (bytes : List ℕ) (k : ℕ) → take (k * 5 + 5 - k * 5) (drop (k * 5) bytes) ≡ recordAt bytes k
+pub record-part : (bytes : List ℕ) (k : ℕ) → take (k * 5 + 5 - k * 5) (drop (k * 5) bytes) ≡ recordAt bytes k
 unfolding recordAt
 record-part bytes k = ap (λ (n : ℕ). take n (drop (k * 5) bytes)) (let q : k * 5 + 5 - k * 5 ≡ 5 = omega arith in q)
 

@@ -1,0 +1,85 @@
+-- The answer: its number, its pops, its list.
+use mathlib.Core.Path.{_≡_, refl, sym, ap, _∙_, subst}
+use mathlib.Core.Bool.{Bool, true, false, not, _&&_}
+use mathlib.Core.List.{List, []}
+use Prim.Native.Nat.{ℕ, _+_, _<_, _≤_}
+use native.Mathlib.Omega.{arith}
+use borrow.Author.Tests.{eq-eqb, ne-eqb}
+use lib.Dec.{eqb}
+use lib.ListN.{length}
+use Rattle.board.specs.Table.{Table}
+use Rattle.moves.specs.declared.Move.{Move}
+use Rattle.generate.proofs.Writing.{written-none}
+use Rattle.nodes.specs.Line.{lineTo}
+use Rattle.nodes.specs.Nodes.{Nodes}
+use Rattle.search.specs.Freecell.{freecell}
+use Rattle.search.specs.Solve.{Answer, State, progressed, brings, answer}
+use Rattle.machine.specs.declared.Counts.{Counts}
+use Rattle.machine.specs.declared.Ended.{Ended}
+use Rattle.machine.specs.declared.Ended.the-variants as ended
+use Rattle.machine.specs.Memory.{Memory}
+use Rattle.machine.specs.View.{nodeOf, stateOf, endOf}
+use Rattle.solver.specs.Searched.{saidNumber}
+use Rattle.solver.specs.declared.Said.{Said}
+use Rattle.solver.specs.declared.Said.the-variants.{BestAtLimit, BestExhausted, Limit, Exhausted}
+use Rattle.solver.specs.declared.Judged.{Judged}
+use Rattle.solver.specs.Inner.{Closed, Gives, lineOr, answerBy}
+
+-- no list: nothing is written
+pub gives-none : (without with : Said) (l : List Move) (pops : ℕ) (old : List ℕ)
+    → Gives (lineOr false with without l pops) old old (record { said = without; pops = pops; moves = 0 })
+gives-none without with l pops old = record { number = refl; pops = refl; moves = refl; list = sym (written-none old 0) }
+
+-- ---- whether the best line is handed over
+
+module _ (partial : Bool) (best : ℕ) where
+  pub best-comes : partial ≡ true → 0 < best → (partial && not (eqb best 0)) ≡ true
+  best-comes p h = rw (p, ne-eqb best 0 (λ q. let z : ⊥ = omega arith in z))
+
+  pub best-is-root : partial ≡ true → best ≤ 0 → (partial && not (eqb best 0)) ≡ false
+  best-is-root p h = rw (p, eq-eqb best 0 (omega arith))
+
+  pub best-unasked : partial ≡ false → (partial && not (eqb best 0)) ≡ false
+  best-unasked p = rw p
+
+-- with the flag known
+module _ (with without : Said) (l : List Move) (pops : ℕ) {old new : List ℕ} {r : Judged} {b : Bool} where
+  pub gives-line : b ≡ true → Gives (lineOr true with with l pops) old new r → Gives (lineOr b with without l pops) old new r
+  gives-line q g = subst (λ (x : Bool). Gives (lineOr x with without l pops) old new r) (sym q) (record { number = g .number; pops = g .pops; moves = g .moves; list = g .list })
+
+pub gives-nothing : (with without : Said) (l : List Move) (pops : ℕ) (old : List ℕ) {b : Bool} → b ≡ false
+    → Gives (lineOr b with without l pops) old old (record { said = without; pops = pops; moves = 0 })
+gives-nothing with without l pops old q =
+    subst (λ (x : Bool). Gives (lineOr x with without l pops) old old (record { said = without; pops = pops; moves = 0 })) (sym q) (gives-none without with l pops old)
+
+-- ---- how the search ended is known
+
+module _ {t : Table} {nodes : List ℕ} {e : Ended} where
+  pub closed-won : {i : ℕ} {c : Counts} → e ≡ ended.Won i c → Closed t nodes e → (i < c .born) × Nodes t nodes (c .born)
+  closed-won q c = subst (Closed t nodes) q c
+
+  pub closed-limit : {c : Counts} → e ≡ ended.Limit c → Closed t nodes e → (c .best < c .born) × Nodes t nodes (c .born)
+  closed-limit q c = subst (Closed t nodes) q c
+
+  pub closed-exhausted : {c : Counts} → e ≡ ended.Exhausted c → Closed t nodes e → (c .best < c .born) × Nodes t nodes (c .born)
+  closed-exhausted q c = subst (Closed t nodes) q c
+
+pub gives-by : (t : Table) (nodes : List ℕ) (partial : Bool) {e d : Ended} {old new : List ℕ} {r : Judged} → e ≡ d
+    → Gives (answerBy t nodes partial d) old new r → Gives (answerBy t nodes partial e) old new r
+gives-by t nodes partial {e} {d} {old} {new} {r} q g = subst (λ (x : Ended). Gives (answerBy t nodes partial x) old new r) (sym q) g
+
+-- ---- it is the definition's answer
+
+module _ (t : Table) (m : Memory) (partial : Bool) where
+  best-answer : (b : Bool) (with without : Said) (c : Counts)
+      → lineOr b with without (lineTo t (m .nodes) (c .best)) (c .pops) ≡ progressed freecell b (saidNumber with) (saidNumber without) (stateOf t m c)
+  unfolding stateOf nodeOf
+  best-answer true with without c = refl
+  best-answer false with without c = refl
+
+  pub answer-is : (e : Ended) → answerBy t (m .nodes) partial e ≡ answer freecell partial (endOf t m e)
+  unfolding stateOf nodeOf
+  answer-is (ended.Won i c) = refl
+  answer-is (ended.Limit c) = best-answer (partial && not (eqb (c .best) 0)) BestAtLimit Limit c
+  answer-is (ended.Exhausted c) = best-answer (partial && not (eqb (c .best) 0)) BestExhausted Exhausted c
+  answer-is (ended.NoRoom p) = refl

@@ -1,0 +1,13 @@
+-- Laws of the inner functions.
+pub mod Choices
+pub mod Births
+pub mod Seeding
+pub mod Growth
+pub mod Reading
+pub mod Expanding
+pub mod Turning
+pub mod Taken
+pub mod Going
+pub mod Handing
+pub mod Judging
+pub mod Accepting

@@ -1,0 +1,74 @@
+-- The root is written, and the search begins.
+use mathlib.Core.Path.{_≡_, refl, sym, ap, _∙_, subst}
+use mathlib.Core.List.{List}
+use Prim.Native.Nat.{ℕ, _+_, _<_, _≤_}
+use native.Mathlib.Omega.{arith}
+use lib.ListN.{length}
+use Rattle.board.specs.Record.{shown}
+use Rattle.board.specs.Inner.{Sound}
+use Rattle.board.specs.declared.Board.{Board}
+use Rattle.play.proofs.Playing.{shows-fair}
+use Rattle.frontier.specs.Heap as frontier
+use Rattle.frontier.specs.Packing.{packed}
+use Rattle.costs.specs.Promises.{Vacant, Stores}
+use Rattle.signature.specs.Signed.{signatureOf}
+use Rattle.score.specs.Features.{Bounded, featuresOf}
+use Rattle.score.specs.Scores.{heuristicKey, progressKey}
+use Rattle.score.specs.declared.Features.{Features}
+use Rattle.score.proofs.Bounds.{bounded}
+use Rattle.nodes.specs.Step as nodes
+use Rattle.search.specs.Freecell.{freecell}
+use Rattle.search.specs.Solve.{start}
+use Rattle.machine.specs.declared.Room.{Room}
+use Rattle.machine.specs.declared.Counts.{Counts}
+use Rattle.machine.specs.Memory.{Memory}
+use Rattle.machine.specs.View.{stateOf}
+use Rattle.machine.specs.Machine.{Machine}
+use Rattle.machine.proofs.Children.{hope-small}
+use Rattle.machine.proofs.Starting.{Blank, Rooted, begun, machine-start, state-start, blank-table}
+use Rattle.solver.specs.Inner.{Empty, Seeds}
+
+module _ {r : Room} {m : Memory} (b : Blank r m) where
+  pub blank-empty : Empty (m .keys) (m .costs) (r .entries)
+  blank-empty = record { some = let s = b .room .spare in omega arith; most = b .most; keyed = b .keyed; costed = b .costed; zero = b .free }
+
+  pub seed-words : 3 ≤ length (m .nodes)
+  seed-words = let w = b .room .words in let s = b .some in omega arith
+
+  pub seed-heap : 0 < length (m .heap)
+  seed-heap = let w = b .room .waits in let s = b .some in omega arith
+
+  pub seed-slot : {k slot : ℕ} → Vacant (m .keys) (m .costs) (r .entries) k slot → slot < 4294967296
+  seed-slot v = let w = v .place .within in let h = b .most in omega arith
+
+  module _ {root : Board} (s : Sound root) {f : Features} (e : f ≡ featuresOf (shown root)) where
+    pub seed-bounded : Bounded f
+    seed-bounded = subst Bounded (sym e) (bounded root s)
+
+    module _ {hope : ℕ} (q : hope ≡ heuristicKey f) where
+      hope-is : hope ≡ heuristicKey (featuresOf (shown root))
+      hope-is = q ∙ ap heuristicKey e
+
+      pub seed-hope : hope < 32768
+      seed-hope = let h = hope-small (shown root) (shows-fair s) in let k = hope-is in omega arith
+
+      pub seeded : {key slot waits p : ℕ} {words heap keys costs : List ℕ} → key ≡ signatureOf (shown root)
+          → Vacant (m .keys) (m .costs) (r .entries) key slot → nodes.Puts (m .nodes) words 0 0 0 slot
+          → Stores (m .keys) (m .costs) keys costs (r .entries) slot key 0 → waits ≡ packed hope hope 0 → frontier.Puts (m .heap) heap 0 waits → p ≡ progressKey f
+          → Seeds root r (record { nodes = words; heap = heap; keys = keys; costs = costs }) (record { born = 1; waiting = 1; best = 0; progress = p; pops = 0 })
+      seeded {key} {slot} {waits} {p} {words} {heap} {keys} {costs} signs v n st w h g = subst (Seeds root r new) (sym counts) (record { machine = machine-start b rooted; pops = refl; begins = state-start b rooted })
+        where
+          new : Memory
+          new = record { nodes = words; heap = heap; keys = keys; costs = costs }
+
+          counts : record { born = 1; waiting = 1; best = 0; progress = p; pops = 0 } ≡ begun (shown root)
+          counts = ap (λ (x : ℕ). record { born = 1; waiting = 1; best = 0; progress = x; pops = 0 }) (g ∙ ap progressKey e)
+
+          rooted : Rooted (shown root) r m new slot
+          rooted =
+              record {
+                spot = subst (λ (k : ℕ). Vacant (m .keys) (m .costs) (r .entries) k slot) signs v;
+                nodes = n;
+                table = subst (λ (k : ℕ). Stores (m .keys) (m .costs) keys costs (r .entries) slot k 0) signs st;
+                heap = subst (frontier.Puts (m .heap) heap 0) (w ∙ ap (λ (x : ℕ). packed x x 0) hope-is ∙ ap (λ (x : ℕ). packed x (heuristicKey (featuresOf (shown root))) 0) (let z : heuristicKey (featuresOf (shown root)) ≡ 0 + heuristicKey (featuresOf (shown root)) = omega arith in z)) h;
+              }

@@ -1,0 +1,69 @@
+-- What `finish` leaves to be shown: each way that a search ends.
+use mathlib.Core.List.{[]}
+use Rattle.board.specs.Record.{shown}
+use Rattle.solver.specs.declared.Said.the-variants.{NoRoom}
+use Rattle.solver.proofs.Handing.{gives-none, closed-won, closed-limit, closed-exhausted, gives-by}
+use borrow.Author.Needs.{needs}
+use Rattle.solver.proofs.finish.finish.Statement.{statement}
+use Rattle.solver.proofs.finish.finish.Tie as tie
+
+enum-known-e : tie.Need-enum-known-e
+enum-known-e c = search needs
+
+with-line-requires : tie.Need-with-line-requires
+with-line-requires c κs = (c .before .before .before .before .before .before .pre .0, (closed-won (c .before .before .e .given .1) (c .before .before .before .before .before .before .pre .1 .0) .1, (closed-won (c .before .before .e .given .1) (c .before .before .before .before .before .before .pre .1 .0) .0, c .before .before .before .before .before .before .pre .1 .1)))
+
+enum-known-e-2 : tie.Need-enum-known-e-2
+enum-known-e-2 c = search needs
+
+best-line-requires : tie.Need-best-line-requires
+best-line-requires c κs = (c .before .before .before .before .before .before .pre .0, (closed-limit (c .before .before .e2 .given .1) (c .before .before .before .before .before .before .pre .1 .0) .1, (closed-limit (c .before .before .e2 .given .1) (c .before .before .before .before .before .before .pre .1 .0) .0, c .before .before .before .before .before .before .pre .1 .1)))
+
+enum-known-e-3 : tie.Need-enum-known-e-3
+enum-known-e-3 c = search needs
+
+best-line-requires-2 : tie.Need-best-line-requires-2
+best-line-requires-2 c κs = (c .before .before .before .before .before .before .pre .0, (closed-exhausted (c .before .before .e3 .given .1) (c .before .before .before .before .before .before .pre .1 .0) .1, (closed-exhausted (c .before .before .e3 .given .1) (c .before .before .before .before .before .before .pre .1 .0) .0, c .before .before .before .before .before .before .pre .1 .1)))
+
+enum-known-e-4 : tie.Need-enum-known-e-4
+enum-known-e-4 c = search needs
+
+same-length : tie.Need-same-length
+same-length c = search needs
+
+returns : tie.Need-returns
+returns c = gives-by (shown (c .before .before .before .before .before .before .before .before .before .args .root)) (c .before .before .before .before .before .before .before .before .before .args .nodes .now) (c .before .before .before .before .before .before .before .before .before .args .partial) (c .before .before .before .before .before .e .given .1) (c .before .before .with-line .ensures)
+
+same-length-2 : tie.Need-same-length-2
+same-length-2 c = search needs
+
+returns-2 : tie.Need-returns-2
+returns-2 c = gives-by (shown (c .before .before .before .before .before .before .before .before .before .args .root)) (c .before .before .before .before .before .before .before .before .before .args .nodes .now) (c .before .before .before .before .before .before .before .before .before .args .partial) (c .before .before .before .before .before .e2 .given .1) (c .before .before .best-line .ensures)
+
+same-length-3 : tie.Need-same-length-3
+same-length-3 c = search needs
+
+returns-3 : tie.Need-returns-3
+returns-3 c = gives-by (shown (c .before .before .before .before .before .before .before .before .before .args .root)) (c .before .before .before .before .before .before .before .before .before .args .nodes .now) (c .before .before .before .before .before .before .before .before .before .args .partial) (c .before .before .before .before .before .e3 .given .1) (c .before .before .best-line2 .ensures)
+
+returns-4 : tie.Need-returns-4
+returns-4 c = gives-by (shown (c .before .before .before .before .before .args .root)) (c .before .before .before .before .before .args .nodes .now) (c .before .before .before .before .before .args .partial) (c .before .e4 .given .1) (gives-none NoRoom NoRoom [] _ _)
+
+pub finish-spec : {M : Type 1} → statement M
+finish-spec =
+    tie.close
+    (tie.spec
+    enum-known-e
+    with-line-requires
+    enum-known-e-2
+    best-line-requires
+    enum-known-e-3
+    best-line-requires-2
+    enum-known-e-4
+    same-length
+    returns
+    same-length-2
+    returns-2
+    same-length-3
+    returns-3
+    returns-4)

@@ -1,0 +1,53 @@
+-- What `choose` leaves to be shown: what is known of the key.
+use mathlib.Core.Path.{_∙_}
+use native.Mathlib.Omega.{arith}
+use Rattle.costs.proofs.Counting.{used-room}
+use Rattle.solver.proofs.Choices.{held-within, held-is-used, drops, lowers, enters}
+use borrow.Author.Needs.{needs}
+use Rattle.solver.proofs.grow.choose.Statement.{statement}
+use Rattle.solver.proofs.grow.choose.Tie as tie
+
+find-requires : tie.Need-find-requires
+find-requires c κs = c .before .before .pre .0
+
+enum-known-i : tie.Need-enum-known-i
+enum-known-i c = search needs
+
+cost-at-requires : tie.Need-cost-at-requires
+cost-at-requires c κs = (held-within (c .before .before .before .find .ensures) _ (c .before .i .given .1) (c .before .before .before .before .before .before .pre .0), held-is-used (c .before .before .before .find .ensures) _ (c .before .i .given .1))
+
+wide-requires : tie.Need-wide-requires
+wide-requires c κs = search needs
+
+returns : tie.Need-returns
+returns c = drops (c .before .before .before .before .before .before .find .ensures) _ (c .before .before .before .before .i .given .1) _ (c .before .wide .ensures ∙ c .before .before .cost-at .ensures) (c .if1 .taken)
+
+enum-known-i-2 : tie.Need-enum-known-i-2
+enum-known-i-2 c = search needs
+
+enum-told : tie.Need-enum-told
+enum-told c = search needs
+
+returns-2 : tie.Need-returns-2
+returns-2 c = lowers (c .before .before .before .before .before .before .find .ensures) _ (c .before .before .before .before .i .given .1) _ (c .before .wide .ensures ∙ c .before .before .cost-at .ensures) (c .if1 .left)
+
+returns-3 : tie.Need-returns-3
+returns-3 c = enters (c .before .before .before .find .ensures) _ _ (c .before .i2 .given .1)
+
+returns-4 : tie.Need-returns-4
+returns-4 c = absurd (used-room (c .before .before .before .before .before .pre .1) (c .before .before .find .ensures) (c .enum-told .given .1))
+
+pub choose-spec : {M : Type 1} → statement M
+choose-spec =
+    tie.close
+    (tie.spec
+    find-requires
+    enum-known-i
+    cost-at-requires
+    wide-requires
+    returns
+    enum-known-i-2
+    enum-told
+    returns-2
+    returns-3
+    returns-4)

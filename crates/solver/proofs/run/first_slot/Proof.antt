@@ -1,0 +1,31 @@
+-- What `first_slot` leaves to be shown: an empty table has an entry free for any key.
+use Rattle.solver.proofs.Choices.{empty-table, never-there, never-full}
+use borrow.Author.Needs.{needs}
+use Rattle.solver.proofs.run.first_slot.Statement.{statement}
+use Rattle.solver.proofs.run.first_slot.Tie as tie
+
+find-requires : tie.Need-find-requires
+find-requires c κs = empty-table (c .before .before .pre)
+
+enum-known-i : tie.Need-enum-known-i
+enum-known-i c = search needs
+
+enum-known-i-2 : tie.Need-enum-known-i-2
+enum-known-i-2 c = search needs
+
+enum-told : tie.Need-enum-told
+enum-told c = search needs
+
+returns : tie.Need-returns
+returns c = absurd (never-there (c .before .before .before .before .before .before .pre) (c .before .before .before .find .ensures) _ (c .before .i .given .1))
+
+returns-2 : tie.Need-returns-2
+returns-2 c = c .before .before .before .find .ensures .vacant _ (c .before .i2 .given .1)
+
+returns-3 : tie.Need-returns-3
+returns-3 c = absurd (never-full (c .before .before .before .before .before .pre) (c .before .before .find .ensures) (c .enum-told .given .1))
+
+pub first-slot-spec : {M : Type 1} → statement M
+first-slot-spec =
+    tie.close
+    (tie.spec find-requires enum-known-i enum-known-i-2 enum-told returns returns-2 returns-3)

@@ -1,0 +1,108 @@
+-- What `go` leaves to be shown: turn after turn, until something ends the run.
+use mathlib.Core.Path.{_∙_}
+use native.Mathlib.Omega.{arith}
+use Rattle.solver.proofs.Going.{Going, going-start, going-pops, going-limit, going-exhausted, going-turn, going-over}
+use borrow.Author.Needs.{needs}
+use Rattle.solver.proofs.run.go.Statement.{statement}
+use Rattle.solver.proofs.run.go.Tie as tie
+
+abbrev Inv-loop : tie.InvT-loop
+Inv-loop root budget room nodes₀ heap₀ keys₀ costs₀ counts₀ left₀ nodes heap keys costs counts left = Going root room budget (record { nodes = nodes₀; heap = heap₀; keys = keys₀; costs = costs₀ }) counts₀ (record { nodes = nodes; heap = heap; keys = keys; costs = costs }) counts left
+
+abbrev μ-loop : tie.MeasureT-loop
+μ-loop root budget room nodes₀ heap₀ keys₀ costs₀ counts₀ left₀ nodes heap keys costs counts left = left
+
+loop-holds : tie.Need-loop-holds Inv-loop μ-loop
+loop-holds c = going-start _ (c .before .before .before .before .pre .1 .0) (c .before .before .before .before .pre .1 .1 .0)
+
+same-length : tie.Need-same-length Inv-loop μ-loop
+same-length c = c .before .before .before .loop .inv .size .nodes
+
+same-length-2 : tie.Need-same-length-2 Inv-loop μ-loop
+same-length-2 c = c .before .before .before .loop .inv .size .heap
+
+same-length-3 : tie.Need-same-length-3 Inv-loop μ-loop
+same-length-3 c = c .before .before .before .loop .inv .size .keys
+
+same-length-4 : tie.Need-same-length-4 Inv-loop μ-loop
+same-length-4 c = c .before .before .before .loop .inv .size .costs
+
+returns : tie.Need-returns Inv-loop μ-loop
+returns c = going-limit (c .before .before .before .loop .inv) (c .if2 .taken) (c .before .if1 .taken)
+
+advance-requires : tie.Need-advance-requires Inv-loop μ-loop
+advance-requires c κs = (c .before .before .before .before .before .before .before .before .before .before .before .before .pre .0, (c .before .before .before .before .before .before .before .loop .inv .machine, (c .before .before .before .before .before .if1 .taken, omega (arith, going-pops (c .before .before .before .before .before .before .before .loop .inv), c .before .before .before .before .before .before .before .before .before .before .before .before .pre .1 .1 .1))))
+
+enum-known-a : tie.Need-enum-known-a Inv-loop μ-loop
+enum-known-a c = search needs
+
+ended-requires : tie.Need-ended-requires Inv-loop μ-loop
+ended-requires c κs = search needs
+
+same-length-5 : tie.Need-same-length-5 Inv-loop μ-loop
+same-length-5 c = c .before .before .before .before .before .before .before .before .before .before .advance .kept .1 .1 .1 .0 ∙ c .before .before .before .before .before .before .before .before .before .before .before .before .before .before .before .before .before .before .loop .inv .size .nodes
+
+same-length-6 : tie.Need-same-length-6 Inv-loop μ-loop
+same-length-6 c = c .before .before .before .before .before .before .before .before .before .before .advance .kept .1 .1 .1 .1 .0 ∙ c .before .before .before .before .before .before .before .before .before .before .before .before .before .before .before .before .before .before .loop .inv .size .heap
+
+same-length-7 : tie.Need-same-length-7 Inv-loop μ-loop
+same-length-7 c = c .before .before .before .before .before .before .before .before .before .before .advance .kept .1 .1 .1 .1 .1 .0 ∙ c .before .before .before .before .before .before .before .before .before .before .before .before .before .before .before .before .before .before .loop .inv .size .keys
+
+same-length-8 : tie.Need-same-length-8 Inv-loop μ-loop
+same-length-8 c = c .before .before .before .before .before .before .before .before .before .before .advance .kept .1 .1 .1 .1 .1 .1 .0 ∙ c .before .before .before .before .before .before .before .before .before .before .before .before .before .before .before .before .before .before .loop .inv .size .costs
+
+returns-2 : tie.Need-returns-2 Inv-loop μ-loop
+returns-2 c = going-over (c .before .before .before .before .before .before .before .before .before .before .before .before .before .before .before .before .before .before .loop .inv) (c .before .before .before .before .before .before .before .before .before .before .before .before .before .before .before .if2 .left) (c .before .before .before .before .before .before .before .before .before .before .advance .ensures) (c .before .match .keys2) (c .ended .ensures)
+
+sub-left : tie.Need-sub-left Inv-loop μ-loop
+sub-left c = omega (arith, c .before .before .before .before .before .before .before .before .before .before .before .before .before .before .before .before .if2 .left)
+
+loop-less : tie.Need-loop-less Inv-loop μ-loop
+loop-less c = omega (arith, c .before .before .before .before .before .before .before .before .before .before .before .before .before .before .before .before .if2 .left)
+
+loop-again : tie.Need-loop-again Inv-loop μ-loop
+loop-again c = going-turn (c .before .before .before .before .before .before .before .before .before .before .before .before .before .before .before .before .before .before .before .loop .inv) (c .before .before .before .before .before .before .before .before .before .before .before .before .before .before .before .before .if2 .left) (c .before .before .before .before .before .before .before .before .before .before .before .advance .ensures) (c .before .a .given .1) (record { nodes = c .before .before .before .before .before .before .before .before .before .before .before .advance .kept .1 .1 .1 .0; heap = c .before .before .before .before .before .before .before .before .before .before .before .advance .kept .1 .1 .1 .1 .0; keys = c .before .before .before .before .before .before .before .before .before .before .before .advance .kept .1 .1 .1 .1 .1 .0; costs = c .before .before .before .before .before .before .before .before .before .before .before .advance .kept .1 .1 .1 .1 .1 .1 .0 })
+
+same-length-9 : tie.Need-same-length-9 Inv-loop μ-loop
+same-length-9 c = c .before .before .loop .inv .size .nodes
+
+same-length-10 : tie.Need-same-length-10 Inv-loop μ-loop
+same-length-10 c = c .before .before .loop .inv .size .heap
+
+same-length-11 : tie.Need-same-length-11 Inv-loop μ-loop
+same-length-11 c = c .before .before .loop .inv .size .keys
+
+same-length-12 : tie.Need-same-length-12 Inv-loop μ-loop
+same-length-12 c = c .before .before .loop .inv .size .costs
+
+returns-3 : tie.Need-returns-3 Inv-loop μ-loop
+returns-3 c = going-exhausted (c .before .before .loop .inv) (omega (arith, c .if1 .left))
+
+pub go-spec : {M : Type 1} → statement M
+go-spec =
+    tie.close
+    (tie.spec
+    Inv-loop
+    μ-loop
+    loop-holds
+    same-length
+    same-length-2
+    same-length-3
+    same-length-4
+    returns
+    advance-requires
+    enum-known-a
+    ended-requires
+    same-length-5
+    same-length-6
+    same-length-7
+    same-length-8
+    returns-2
+    sub-left
+    loop-less
+    loop-again
+    same-length-9
+    same-length-10
+    same-length-11
+    same-length-12
+    returns-3)

@@ -1,0 +1,87 @@
+-- What `visit` leaves to be shown: a node is won, too deep or expanded.
+use native.Mathlib.Omega.{arith}
+use Rattle.solver.proofs.Turning.{stands, visit-won, visit-deep, visit-full, visit-grown, full-expands, grown-expands}
+use borrow.Author.Needs.{needs}
+use Rattle.solver.proofs.run.visit.Statement.{statement}
+use Rattle.solver.proofs.run.visit.Tie as tie
+
+board-of-requires : tie.Need-board-of-requires
+board-of-requires c κs = (c .before .before .before .before .before .pre .0 .begins, (c .before .before .before .before .before .pre .0 .machine .nodes, c .before .before .before .before .before .pre .0 .born))
+
+won-at-requires : tie.Need-won-at-requires
+won-at-requires c κs = c .before .before .board-of .ensures .1 .inPiles
+
+same-length : tie.Need-same-length
+same-length c = search needs
+
+returns : tie.Need-returns
+returns c = visit-won (c .before .before .before .before .before .before .before .before .before .before .pre .0) (c .before .before .before .before .board-of .ensures .0) (c .before .before .before .before .board-of .ensures .1) (c .before .won-at .ensures) (c .if1 .taken)
+
+same-length-2 : tie.Need-same-length-2
+same-length-2 c = search needs
+
+returns-2 : tie.Need-returns-2
+returns-2 c = visit-deep (c .before .before .before .before .before .before .before .before .before .before .before .pre .0) (c .before .before .before .before .before .board-of .ensures .0) (c .before .before .before .before .before .board-of .ensures .1) (c .before .before .won-at .ensures) (c .before .if1 .left) (c .before .before .before .before .before .before .before .before .before .before .before .pre .1) (c .if2 .taken)
+
+expand-requires : tie.Need-expand-requires
+expand-requires c κs = (stands (c .before .before .before .before .before .before .before .before .before .before .before .before .before .before .before .pre .0) (c .before .before .before .before .before .before .before .before .before .board-of .ensures .0) (c .before .before .before .before .before .before .before .before .before .board-of .ensures .1), c .before .before .before .before .before .before .before .before .before .before .before .before .before .before .before .pre .1)
+
+enum-told : tie.Need-enum-told
+enum-told c = search needs
+
+enum-known-next : tie.Need-enum-known-next
+enum-known-next c = search needs
+
+same-length-3 : tie.Need-same-length-3
+same-length-3 c = search needs
+
+same-length-4 : tie.Need-same-length-4
+same-length-4 c = search needs
+
+same-length-5 : tie.Need-same-length-5
+same-length-5 c = search needs
+
+same-length-6 : tie.Need-same-length-6
+same-length-6 c = search needs
+
+returns-3 : tie.Need-returns-3
+returns-3 c = visit-full (c .before .before .before .before .before .before .before .before .before .before .before .before .before .before .before .before .before .before .before .before .before .before .before .before .before .before .pre .0) (c .before .before .before .before .before .before .before .before .before .before .before .before .before .before .before .before .before .before .before .before .board-of .ensures .0) (c .before .before .before .before .before .before .before .before .before .before .before .before .before .before .before .before .before .before .before .before .board-of .ensures .1) (c .before .before .before .before .before .before .before .before .before .before .before .before .before .before .before .before .before .won-at .ensures) (c .before .before .before .before .before .before .before .before .before .before .before .before .before .before .before .before .if1 .left) (c .before .before .before .before .before .before .before .before .before .before .before .before .before .before .before .before .before .before .before .before .before .before .before .before .before .before .pre .1) (c .before .before .before .before .before .before .before .before .before .before .before .before .before .before .before .if2 .left) (full-expands (c .before .before .before .before .before .before .before .before .before .before .expand .ensures) (c .enum-told .given .1))
+
+same-length-7 : tie.Need-same-length-7
+same-length-7 c = search needs
+
+same-length-8 : tie.Need-same-length-8
+same-length-8 c = search needs
+
+same-length-9 : tie.Need-same-length-9
+same-length-9 c = search needs
+
+same-length-10 : tie.Need-same-length-10
+same-length-10 c = search needs
+
+returns-4 : tie.Need-returns-4
+returns-4 c = visit-grown (c .before .before .before .before .before .before .before .before .before .before .before .before .before .before .before .before .before .before .before .before .before .before .before .before .before .before .before .pre .0) (c .before .before .before .before .before .before .before .before .before .before .before .before .before .before .before .before .before .before .before .before .before .board-of .ensures .0) (c .before .before .before .before .before .before .before .before .before .before .before .before .before .before .before .before .before .before .before .before .before .board-of .ensures .1) (c .before .before .before .before .before .before .before .before .before .before .before .before .before .before .before .before .before .before .won-at .ensures) (c .before .before .before .before .before .before .before .before .before .before .before .before .before .before .before .before .before .if1 .left) (c .before .before .before .before .before .before .before .before .before .before .before .before .before .before .before .before .before .before .before .before .before .before .before .before .before .before .before .pre .1) (c .before .before .before .before .before .before .before .before .before .before .before .before .before .before .before .before .if2 .left) (grown-expands (c .before .before .before .before .before .before .before .before .before .before .before .expand .ensures) (c .before .next .given .1))
+
+pub visit-spec : {M : Type 1} → statement M
+visit-spec =
+    tie.close
+    (tie.spec
+    board-of-requires
+    won-at-requires
+    same-length
+    returns
+    same-length-2
+    returns-2
+    expand-requires
+    enum-told
+    enum-known-next
+    same-length-3
+    same-length-4
+    same-length-5
+    same-length-6
+    returns-3
+    same-length-7
+    same-length-8
+    same-length-9
+    same-length-10
+    returns-4)

@@ -1,0 +1,4 @@
+-- Read these in this order.
+pub mod Capacity
+pub mod Searched
+pub mod Inner

@@ -1,0 +1,83 @@
+-- The search as it is asked for: 12 to 15, 20, 21, 22, or its answer with its list; the scratch is left all zero.
+use mathlib.Core.Bool.{Bool}
+use mathlib.Core.List.{List, []}
+use Prim.Native.Nat.{ℕ}
+use lib.Dec.{leb}
+use lib.ListN.{length}
+use Rattle.card.specs.Answer.{given, refused, unless}
+use Rattle.board.specs.Judged.{Verdict, fine, after}
+use Rattle.board.specs.Record.{examined, shown}
+use Rattle.board.specs.Refusal.{numberOf}
+use Rattle.board.specs.declared.Board.{Board}
+use Rattle.moves.specs.declared.Move.{Move}
+use Rattle.generate.specs.Asked.{written}
+use Rattle.blank.specs.Blank.{blank}
+use Rattle.search.specs.Freecell.{freecell, judge}
+use Rattle.search.specs.Solve.{Perhaps, none, some, Answer}
+use Rattle.solver.specs.Capacity.{capacityOf}
+use Rattle.solver.specs.declared.Said.{Said}
+use Rattle.solver.specs.declared.Said.the-variants.{Won, BestAtLimit, BestExhausted, Limit, Exhausted, NoRoom, Refused}
+use Rattle.solver.specs.declared.Judged.{Judged}
+
+-- document 01's number of each case
+abbrev pub saidNumber : Said → ℕ
+saidNumber Won = 0
+saidNumber BestAtLimit = 1
+saidNumber BestExhausted = 2
+saidNumber Limit = 3
+saidNumber Exhausted = 4
+saidNumber NoRoom = 23
+saidNumber (Refused why) = numberOf why
+
+-- all that a search hands back and leaves: its number, its pops, the moves of its list, and every lent byte
+pub record Outcome : Type 0 where
+  pub number : ℕ
+  pub pops : ℕ
+  pub moves : ℕ
+  pub nodes : List ℕ
+  pub heap : List ℕ
+  pub keys : List ℕ
+  pub costs : List ℕ
+  pub list : List ℕ
+
+abbrev pub outcome : Judged → List ℕ → List ℕ → List ℕ → List ℕ → List ℕ → Outcome
+outcome r nodes heap keys costs list =
+    record { number = saidNumber (r .said); pops = r .pops; moves = r .moves; nodes = nodes; heap = heap; keys = keys; costs = costs; list = list }
+
+-- the moves of a list, if there is one
+abbrev pub movesOf : Perhaps (List Move) → List Move
+movesOf none = []
+movesOf (some l) = l
+
+-- why a search is refused, in this order
+unfoldable pub accepted : Board → ℕ → ℕ → ℕ → Verdict
+accepted b budget capacity lent =
+    after (examined b) (unless (leb budget 1000000) 20 (unless (leb 1000 lent) 21 (unless (leb 1 capacity) 22 fine)))
+
+module _ (nodes heap keys costs list : List ℕ) where
+  -- a refusal changes nothing
+  abbrev pub refusedWith : ℕ → Outcome
+  refusedWith n = record { number = n; pops = 0; moves = 0; nodes = nodes; heap = heap; keys = keys; costs = costs; list = list }
+
+  -- an answer leaves the scratch all zero; its list, if there is one, is written from the start of the list buffer
+  unfoldable pub answeredWith : Answer freecell → Outcome
+  answeredWith a =
+      record {
+        number = a .number;
+        pops = a .pops;
+        moves = length (movesOf (a .list));
+        nodes = blank nodes;
+        heap = blank heap;
+        keys = blank keys;
+        costs = blank costs;
+        list = written list 0 (movesOf (a .list));
+      }
+
+  abbrev pub searchedBy : Verdict → Board → ℕ → Bool → Outcome
+  searchedBy (refused n) b budget partial = refusedWith n
+  searchedBy (given u) b budget partial =
+      answeredWith (judge (shown b) budget (capacityOf (length nodes) (length heap) (length keys) (length costs)) partial)
+
+  unfoldable pub searched : Board → ℕ → Bool → Outcome
+  searched b budget partial =
+      searchedBy (accepted b budget (capacityOf (length nodes) (length heap) (length keys) (length costs)) (length list)) b budget partial

@@ -1,0 +1,159 @@
+// The search in lent memory (after freecell/solver.rs, `solve_with_stats`).
+ghost use mathlib.Core.Path.{_≡_};
+ghost use Prim.Native.Nat.{min, _≤_};
+ghost use lib.ListN.{length};
+ghost use Rattle.board.specs.Record.{shown};
+ghost use Rattle.board.specs.Inner.{Sound};
+ghost use Rattle.solver.specs.declared.Said.the-variants.{Refused};
+ghost use Rattle.search.specs.Freecell.{judge};
+ghost use Rattle.solver.specs.Capacity.{capacityOf, entriesOf};
+ghost use Rattle.solver.specs.Searched.{outcome, searched};
+ghost use Rattle.solver.specs.Inner.{Accepts, Roomy, Gives};
+use board::Board;
+use board::Examined;
+use board::Refusal;
+use board::judge::inspect;
+use machine::Room;
+
+pub mod finish;
+pub mod grow;
+pub mod run;
+
+// How a search was answered; specs/Searched.antt has document 01's number for each.
+pub enum Said {
+    Won,
+    BestAtLimit,
+    BestExhausted,
+    Limit,
+    Exhausted,
+    NoRoom,
+    Refused(Refusal),
+}
+
+// The answer, the pops, and how many moves the list has.
+pub struct Judged {
+    pub said: Said,
+    pub pops: usize,
+    pub moves: usize,
+}
+
+// A child is dropped, or its cost goes to an entry of the table.
+pub enum Choice {
+    Dropped,
+    Slot(usize),
+}
+
+fn lesser(a: usize, b: usize) -> usize
+    ensures { λ r. ⌜ r ≡ min a b ⌝ }
+{
+    if a < b {
+        return a;
+    }
+    b
+}
+
+// How many nodes the lent parts hold.
+pub fn capacity_of(nodes: usize, heap: usize, keys: usize, costs: usize) -> usize
+    ensures { λ r. ⌜ r ≡ capacityOf nodes heap keys costs ⌝ }
+{
+    let entries = lesser(keys / 2, lesser(costs / 2, 4294967295));
+    lesser(nodes / 3, lesser(heap, entries))
+}
+
+// The room for so many nodes.
+fn room_for(capacity: usize) -> Room
+    requires { ⌜ capacity ≤ 4294967295 ⌝ }
+    ensures { λ r. ⌜ r ≡ record { capacity = capacity; entries = entriesOf capacity } ⌝ }
+{
+    let twice = capacity * 2;
+    Room {
+        capacity,
+        entries: lesser(twice, 4294967296),
+    }
+}
+
+fn refused(why: Refusal) -> Judged
+    ensures { λ r. ⌜ r ≡ record { said = Refused why; pops = 0; moves = 0 } ⌝ }
+{
+    Judged {
+        said: Said::Refused(why),
+        pops: 0,
+        moves: 0,
+    }
+}
+
+// An accepted search; the scratch is left as the search leaves it.
+fn judge_at(
+    b: Board,
+    budget: usize,
+    partial: bool,
+    room: Room,
+    nodes: &mut [u32],
+    heap: &mut [u64],
+    keys: &mut [u64],
+    costs: &mut [u8],
+    list: &mut [u8],
+) -> Judged
+    requires { ⌜ Sound b ⌝ }
+    requires { ⌜ budget ≤ 1000000 ⌝ }
+    requires { ⌜ Roomy room (record { nodes = now nodes; heap = now heap; keys = now keys; costs = now costs }) ⌝ }
+    requires { ⌜ 1000 ≤ length (now list) ⌝ }
+    ensures { λ r. ⌜ Gives (judge (shown b) budget (room .capacity) partial) (now (list .entry)) (now (list .exit)) r ⌝ }
+{
+    if questions::won_at(&b.foundation) {
+        return Judged {
+            said: Said::Won,
+            pops: 0,
+            moves: 0,
+        };
+    }
+    blank::clear_bytes(costs);
+    let c = run::seed(b, room, nodes, heap, keys, costs);
+    let e = run::go(b, budget, room, c, nodes, heap, keys, costs);
+    finish::finish(b, partial, e, nodes, list)
+}
+
+// Why a search is refused, in this order: 12 to 15, 20, 21, 22.
+fn examine(b: Board, budget: usize, capacity: usize, lent: usize) -> Examined
+    ensures { λ r. ⌜ Accepts b budget capacity lent r ⌝ }
+{
+    if let Examined::Refused(why) = inspect(&b.cells, &b.foundation, &b.counts, &b.tableau) {
+        return Examined::Refused(why);
+    }
+    if 1000000 < budget {
+        return Examined::Refused(Refusal::OverBudget);
+    }
+    if lent < 1000 {
+        return Examined::Refused(Refusal::NoRoom);
+    }
+    if capacity == 0 {
+        return Examined::Refused(Refusal::NoNode);
+    }
+    Examined::WellFormed
+}
+
+// 12 to 15, 20, 21, 22, or the answer; the scratch is all zero after it.
+pub fn solve(
+    b: Board,
+    budget: usize,
+    partial: bool,
+    nodes: &mut [u32],
+    heap: &mut [u64],
+    keys: &mut [u64],
+    costs: &mut [u8],
+    list: &mut [u8],
+) -> Judged
+    ensures { λ r. ⌜ outcome r (now (nodes .exit)) (now (heap .exit)) (now (keys .exit)) (now (costs .exit)) (now (list .exit)) ≡ searched (now (nodes .entry)) (now (heap .entry)) (now (keys .entry)) (now (costs .entry)) (now (list .entry)) b budget partial ⌝ }
+{
+    let capacity = capacity_of(nodes.len(), heap.len(), keys.len(), costs.len());
+    if let Examined::Refused(why) = examine(b, budget, capacity, list.len()) {
+        return refused(why);
+    }
+    let room = room_for(capacity);
+    let r = judge_at(b, budget, partial, room, nodes, heap, keys, costs, list);
+    blank::clear_words(nodes);
+    blank::clear_longs(heap);
+    blank::clear_longs(keys);
+    blank::clear_bytes(costs);
+    r
+}
