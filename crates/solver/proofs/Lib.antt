@@ -11,3 +11,4 @@ pub mod Going
 pub mod Handing
 pub mod Judging
 pub mod Accepting
+pub mod Masters

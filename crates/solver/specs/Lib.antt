@@ -2,3 +2,4 @@
 pub mod Capacity
 pub mod Searched
 pub mod Inner
+pub mod Told
