@@ -52,7 +52,7 @@ long-two n h = by-side (decLt n 10)
     by-side (yes l) = let e = long-one n l in omega arith
     by-side (no l) = let e = ap length (decimal-two n (omega arith) h) in omega arith
 
-long-three : (n : ℕ) → n < 1000 → length (decimal n) ≤ 3
+pub long-three : (n : ℕ) → n < 1000 → length (decimal n) ≤ 3
 long-three n h = by-side (decLt n 100)
   where
     by-side : Dec (n < 100) → length (decimal n) ≤ 3

@@ -9,7 +9,7 @@ ghost use Rattle.score.specs.Asked.{Puts};
 use crate::Features;
 
 // Some bytes at a place.
-fn put_bytes(out: &mut [u8], at: usize, s: &[u8]) -> usize
+pub fn put_bytes(out: &mut [u8], at: usize, s: &[u8]) -> usize
     requires { ⌜ at + length (now s) ≤ length (now out) ⌝ }
     ensures { λ r. ⌜ Puts (now (out .entry)) (now (out .exit)) at r (now (s .entry)) ⌝ }
 {
@@ -32,7 +32,7 @@ fn digit(n: usize) -> u8
 }
 
 // A number of at most three digits, at a place.
-fn put_number(out: &mut [u8], at: usize, n: usize) -> usize
+pub fn put_number(out: &mut [u8], at: usize, n: usize) -> usize
     requires { ⌜ n < 1000 ⌝ }
     requires { ⌜ at + length (decimal n) ≤ length (now out) ⌝ }
     ensures { λ r. ⌜ Puts (now (out .entry)) (now (out .exit)) at r (decimal n) ⌝ }
@@ -53,7 +53,7 @@ fn put_number(out: &mut [u8], at: usize, n: usize) -> usize
 }
 
 // A label and its number.
-fn put(out: &mut [u8], at: usize, label: &[u8], n: usize) -> usize
+pub fn put(out: &mut [u8], at: usize, label: &[u8], n: usize) -> usize
     requires { ⌜ n < 1000 ⌝ }
     requires { ⌜ at + length (now label ++ decimal n) ≤ length (now out) ⌝ }
     ensures { λ r. ⌜ Puts (now (out .entry)) (now (out .exit)) at r (now (label .entry) ++ decimal n) ⌝ }

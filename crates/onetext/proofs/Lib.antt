@@ -1,0 +1,6 @@
+-- Laws for the functions.
+pub mod Along
+pub mod Lining
+pub mod Gaining
+pub mod Telling
+pub mod Unique

@@ -1,0 +1,51 @@
+-- What `kept` leaves to be shown: no more are counted than looked at.
+use Prim.Native.Nat.{_≤_, _-_}
+use lib.ListN.{length}
+use borrow.Author.Needs.{needs}
+use Rattle.trials_search.proofs.say.kept.Statement.{statement}
+use Rattle.trials_search.proofs.say.kept.Tie as tie
+
+abbrev Inv-loop : tie.InvT-loop
+Inv-loop room from n₀ k₀ n k = n ≤ k
+
+abbrev μ-loop : tie.MeasureT-loop
+μ-loop room from n₀ k₀ n k = length room - k
+
+loop-holds : tie.Need-loop-holds Inv-loop μ-loop
+loop-holds c = search needs
+
+shared-slice-read-one-if : tie.Need-shared-slice-read-one-if Inv-loop μ-loop
+shared-slice-read-one-if c = search needs
+
+one-if-requires : tie.Need-one-if-requires Inv-loop μ-loop
+one-if-requires c κs = search needs
+
+add-n : tie.Need-add-n Inv-loop μ-loop
+add-n c = search needs
+
+add-k : tie.Need-add-k Inv-loop μ-loop
+add-k c = search needs
+
+loop-less : tie.Need-loop-less Inv-loop μ-loop
+loop-less c = search needs
+
+loop-again : tie.Need-loop-again Inv-loop μ-loop
+loop-again c = search needs
+
+returns : tie.Need-returns Inv-loop μ-loop
+returns c = search needs
+
+pub kept-spec : {M : Type 1} → statement M
+kept-spec =
+    tie.close
+    (tie.spec
+    Inv-loop
+    μ-loop
+    loop-holds
+    shared-slice-read-one-if
+    one-if-requires
+    add-n
+    add-k
+    loop-less
+    loop-again
+    returns)

@@ -1,0 +1,115 @@
+// What a trial of the search writes: the answer, then what it left in the memory that was lent.
+ghost use Prim.Native.Nat.{_≤_};
+use solver::Said;
+
+// What the list buffer holds before a search.
+pub(crate) const MARK: u8 = 7;
+
+fn wide(x: u8) -> u64 {
+    x as u64
+}
+
+pub(crate) fn text(s: &[u8]) {
+    io::write_all(1, s);
+}
+
+// A number, with a space before it.
+pub(crate) fn number(n: usize) {
+    io::write_all(1, b" ");
+    io::print_decimal(1, n as u64);
+}
+
+pub(crate) fn line_end() {
+    io::write_all(1, b"\n");
+}
+
+// Document 01's number of an answer.
+pub(crate) fn number_of(said: Said) -> usize {
+    match said {
+        Said::Won => 0,
+        Said::BestAtLimit => 1,
+        Said::BestExhausted => 2,
+        Said::Limit => 3,
+        Said::Exhausted => 4,
+        Said::NoRoom => 23,
+        Said::Refused(why) => card::wide(board::number(why)),
+    }
+}
+
+fn one_if(so: bool) -> usize
+    ensures { λ r. ⌜ r ≤ 1 ⌝ }
+{
+    if so {
+        return 1;
+    }
+    0
+}
+
+// How many words are not zero.
+pub(crate) fn dirty_words(room: &[u32]) -> usize {
+    let mut n = 0;
+    let mut k = 0;
+    while k < room.len() {
+        n += one_if(room[k] != 0);
+        k += 1;
+    }
+    n
+}
+
+pub(crate) fn dirty_longs(room: &[u64]) -> usize {
+    let mut n = 0;
+    let mut k = 0;
+    while k < room.len() {
+        n += one_if(room[k] != 0);
+        k += 1;
+    }
+    n
+}
+
+pub(crate) fn dirty_bytes(room: &[u8]) -> usize {
+    let mut n = 0;
+    let mut k = 0;
+    while k < room.len() {
+        n += one_if(room[k] != 0);
+        k += 1;
+    }
+    n
+}
+
+// How many bytes of the list buffer from a place on are as they were.
+fn kept(room: &[u8], from: usize) -> usize {
+    let mut n = 0;
+    let mut k = from;
+    while k < room.len() {
+        n += one_if(room[k] == MARK);
+        k += 1;
+    }
+    n
+}
+
+// A byte of the list as two digits, with a space before each record.
+fn digits(k: usize, byte: u8) {
+    if k % 5 == 0 {
+        text(b" ");
+    }
+    io::print_hex(1, wide(byte), 2);
+}
+
+// The first bytes of the list buffer.
+fn records(room: &[u8], end: usize) {
+    let mut k = 0;
+    while k < end {
+        if room.len() <= k {
+            return;
+        }
+        digits(k, room[k]);
+        k += 1;
+    }
+}
+
+// How many bytes behind the list are as they were, and the list.
+pub(crate) fn list(room: &[u8], moves: usize) {
+    let end = moves % 201 * 5;
+    number(kept(room, end));
+    records(room, end);
+}
