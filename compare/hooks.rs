@@ -45,3 +45,76 @@ pub fn hook_candidates(board: &FreeCellBoard) -> Vec<(FreeCellMove, i64)> {
         })
         .collect()
 }
+
+// The loop of `solve_with_stats` told again with a budget, a capacity and the pops counted, for compare/texts.rs: document
+// 01's number, the pops, and the list of a win. No partial list.
+pub fn hook_judge(
+    board: &FreeCellBoard,
+    budget: usize,
+    capacity: usize,
+) -> (u8, usize, Vec<FreeCellMove>) {
+    if is_win(board) {
+        return (0, 0, vec![]);
+    }
+    let mut nodes = vec![FcSearchNode {
+        parent_index: None,
+        move_sequence: None,
+        depth: 0,
+        path_cost: 0,
+    }];
+    let mut frontier = MinHeap::new();
+    frontier.push(FcFrontierItem {
+        node_index: 0,
+        board: board.clone(),
+        g_score: 0,
+        h_score: heuristic_cost(&compute_features(board)),
+    });
+    let mut best_cost: HashMap<u64, usize> = HashMap::new();
+    best_cost.insert(board.signature, 0);
+    let mut pops = 0;
+    while let Some(current) = frontier.pop() {
+        if pops >= budget {
+            return (3, pops, vec![]);
+        }
+        pops += 1;
+        let (cost, depth) = {
+            let node = &nodes[current.node_index];
+            (node.path_cost, node.depth)
+        };
+        if best_cost.get(&current.board.signature) != Some(&cost) {
+            continue;
+        }
+        if is_win(&current.board) {
+            return (0, pops, reconstruct_moves(current.node_index, &nodes));
+        }
+        if depth >= weights::MAX_DEPTH {
+            continue;
+        }
+        for expansion in expand_moves(cost, find_all_moves(&current.board)) {
+            let depth = depth + expansion.move_sequence.len();
+            let cost = expansion.path_cost;
+            let known = best_cost.get(&expansion.board.signature);
+            if depth > weights::MAX_DEPTH || known.is_some_and(|&known| known <= cost) {
+                continue;
+            }
+            if nodes.len() >= capacity {
+                return (23, pops, vec![]);
+            }
+            best_cost.insert(expansion.board.signature, cost);
+            let h_score = heuristic_cost(&compute_features(&expansion.board));
+            frontier.push(FcFrontierItem {
+                node_index: nodes.len(),
+                board: expansion.board,
+                g_score: cost,
+                h_score,
+            });
+            nodes.push(FcSearchNode {
+                parent_index: Some(current.node_index),
+                move_sequence: Some(expansion.move_sequence),
+                depth,
+                path_cost: cost,
+            });
+        }
+    }
+    (4, pops, vec![])
+}

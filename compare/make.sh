@@ -2,8 +2,8 @@
 # Makes what the comparing programs are held to, by running the original Rust: compare/make.sh SOURCES
 # SOURCES is the original's folder solver-core-rs/src (it has common/ and freecell/). Needs rustc and nothing else.
 # Writes stdin and stdout of crates/oracle_boards (boards.rs), oracle_moves (moves.rs), oracle_signatures (signatures.rs,
-# with the published hashes of fnv-vectors.txt) and oracle_scores (scores.rs, with hooks.rs added to the copy of solver.rs);
-# the same sources always give the same bytes.
+# with the published hashes of fnv-vectors.txt), oracle_scores (scores.rs, with hooks.rs added to the copy of solver.rs) and,
+# after the inputs made by hand, texts (texts.rs); the same sources always give the same bytes.
 set -eu
 if [ $# -ne 1 ]; then
     echo "usage: $0 SOURCES" >&2
@@ -20,8 +20,10 @@ for file in board solver weights; do
 done
 cat "$here/shared.rs" > "$room/shared.rs"
 cat "$here/hooks.rs" >> "$room/freecell/solver.rs"
-for driver in boards moves signatures scores; do
+for driver in boards moves signatures scores texts; do
+    crate=$crates/oracle_$driver
+    [ "$driver" != texts ] || crate=$crates/texts
     cat "$here/$driver.rs" > "$room/$driver.rs"
     rustc --edition 2021 -O --cap-lints allow -o "$room/$driver" "$room/$driver.rs"
-    "$room/$driver" "$crates/oracle_$driver/stdin" "$crates/oracle_$driver/stdout" "$here/fnv-vectors.txt"
+    "$room/$driver" "$crate/stdin" "$crate/stdout" "$here/fnv-vectors.txt"
 done
