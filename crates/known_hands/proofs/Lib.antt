@@ -1,2 +1,3 @@
--- The claim.
+-- The claim, and what it says of the code.
 pub mod Known
+pub mod Coded
