@@ -15,9 +15,9 @@ use board::Refusal;
 use board::judge::inspect;
 use machine::Room;
 
-pub mod finish;
-pub mod grow;
-pub mod run;
+mod finish;
+mod grow;
+mod run;
 
 // How a search was answered; specs/Searched.antt has document 01's number for each.
 pub enum Said {
