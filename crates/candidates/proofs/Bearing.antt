@@ -21,8 +21,7 @@ use Rattle.safe.specs.Asked.{Chains}
 use Rattle.safe.specs.declared.Chained.{Chained}
 use Rattle.safe.proofs.Chaining.{chain-legal, chain-most}
 use Rattle.candidates.specs.Children.{childMoves, childTable}
-use Rattle.candidates.specs.Inner.{Bears}
-use Rattle.candidates.proofs.Trying.{Playable}
+use Rattle.candidates.specs.Inner.{Playable, Bears}
 
 module _ (t : Table) (f : Fair t) (m : Move) (p : Playable t m) where
   pub child-legal : Legal t (childMoves t m)

@@ -21,8 +21,7 @@ use Rattle.generate.specs.Found.{gather}
 use Rattle.generate.specs.Asked.{bytesOf, written, Adds}
 use Rattle.generate.proofs.Writing.{record-long, adds-long}
 use Rattle.safe.specs.Safe.{chosen}
-use Rattle.candidates.specs.Inner.{recordAt, moveAt, movesIn, Holds}
-use Rattle.candidates.proofs.Trying.{AllPlayable}
+use Rattle.candidates.specs.Inner.{AllPlayable, recordAt, moveAt, movesIn, Holds}
 
 -- five bytes from place k * 5 on are record k
 pub record-part : (bytes : List ℕ) (k : ℕ) → take (k * 5 + 5 - k * 5) (drop (k * 5) bytes) ≡ recordAt bytes k

@@ -10,8 +10,6 @@ use lib.Signed.{leZ}
 use lib.ListN.{length, length-append}
 use Rattle.board.specs.Table.{Table}
 use Rattle.questions.specs.Questions.{homeCount}
-use Rattle.moves.specs.Move.{sayable}
-use Rattle.moves.specs.Play.{allowed}
 use Rattle.moves.specs.declared.Move.{Move}
 use Rattle.moves.proofs.Fairness.{Fair}
 use Rattle.generate.specs.Found.{found, isIn}
@@ -23,67 +21,59 @@ use Rattle.score.specs.Weights.{ENDGAME_UNSAFE_FOUNDATION_THRESHOLD}
 use Rattle.safe.specs.Safe.{chosen, isSafe, homeMoves}
 use Rattle.priority.specs.Priority.{priorityOn}
 use Rattle.candidates.specs.Candidates.{worthwhile, isUnsafe, lateMoves, tried, ranked, inOrder, candidates}
+use Rattle.candidates.specs.Inner.{Playable, AllPlayable}
 
 -- ---- moves that can be played
 
--- a move that can be said and is allowed
-pub record Playable (t : Table) (m : Move) : Type 0 where
-  pub said : sayable m ≡ true
-  pub allows : allowed t m ≡ true
-
 module _ (t : Table) where
-  abbrev pub AllPlayable : List Move → Type 0
-  AllPlayable [] = Unit {0}
-  AllPlayable (m ∷ ms) = Playable t m × AllPlayable ms
-
-  all-in : (ms : List Move) → ((m : Move) → isIn m ms → Playable t m) → AllPlayable ms
+  all-in : (ms : List Move) → ((m : Move) → isIn m ms → Playable t m) → AllPlayable t ms
   all-in [] p = tt
   all-in (m ∷ ms) p = (p m (inl refl), all-in ms (λ n i. p n (inr i)))
 
-  all-append : (ms ns : List Move) → AllPlayable ms → AllPlayable ns → AllPlayable (ms ++ ns)
+  all-append : (ms ns : List Move) → AllPlayable t ms → AllPlayable t ns → AllPlayable t (ms ++ ns)
   all-append [] ns a b = b
   all-append (m ∷ ms) ns a b = (a .0, all-append ms ns (a .1) b)
 
-  either : (r : Bool) (ms ns : List Move) → AllPlayable ms → AllPlayable ns → AllPlayable (cond r ms ns)
+  either : (r : Bool) (ms ns : List Move) → AllPlayable t ms → AllPlayable t ns → AllPlayable t (cond r ms ns)
   either true ms ns a b = a
   either false ms ns a b = b
 
-  pub all-chosen : (p : Move → Bool) (ms : List Move) → AllPlayable ms → AllPlayable (chosen p ms)
+  pub all-chosen : (p : Move → Bool) (ms : List Move) → AllPlayable t ms → AllPlayable t (chosen p ms)
   unfolding chosen
   all-chosen p [] a = tt
   all-chosen p (m ∷ ms) a = either (p m) (m ∷ chosen p ms) (chosen p ms) (a .0, all-chosen p ms (a .1)) (all-chosen p ms (a .1))
 
-  all-ranked : (m : Move) (ms : List Move) → Playable t m → AllPlayable ms → AllPlayable (ranked t m ms)
+  all-ranked : (m : Move) (ms : List Move) → Playable t m → AllPlayable t ms → AllPlayable t (ranked t m ms)
   unfolding ranked
   all-ranked m [] p a = (p, tt)
   all-ranked m (y ∷ l) p a = either (leZ (priorityOn t y) (priorityOn t m)) (m ∷ y ∷ l) (y ∷ ranked t m l) (p, a) (a .0, all-ranked m l p (a .1))
 
-  all-ordered : (ms : List Move) → AllPlayable ms → AllPlayable (inOrder t ms)
+  all-ordered : (ms : List Move) → AllPlayable t ms → AllPlayable t (inOrder t ms)
   unfolding inOrder
   all-ordered [] a = tt
   all-ordered (m ∷ ms) a = all-ranked m (inOrder t ms) (a .0) (all-ordered ms (a .1))
 
   -- what stands among them
-  pub one-of-all : (m : Move) (ms : List Move) → isIn m ms → AllPlayable ms → Playable t m
+  pub one-of-all : (m : Move) (ms : List Move) → isIn m ms → AllPlayable t ms → Playable t m
   one-of-all m [] i a = absurd i
   one-of-all m (x ∷ l) (inl e) a = subst (Playable t) (sym e) (a .0)
   one-of-all m (x ∷ l) (inr i) a = one-of-all m l i (a .1)
 
   module _ (f : Fair t) where
-    pub all-found : (w : Way) → AllPlayable (found t w)
+    pub all-found : (w : Way) → AllPlayable t (found t w)
     all-found w = all-in (found t w) (λ m i. record { said = found-said t w m f i; allows = found-allowed t w m i .0 })
 
-    pub all-home : AllPlayable (homeMoves t)
+    pub all-home : AllPlayable t (homeMoves t)
     unfolding homeMoves
     all-home = all-append (found t ColumnToHome) (found t CellToHome) (all-found ColumnToHome) (all-found CellToHome)
 
-    all-late : AllPlayable (lateMoves t)
+    all-late : AllPlayable t (lateMoves t)
     unfolding lateMoves
     all-late =
         either (leb ENDGAME_UNSAFE_FOUNDATION_THRESHOLD (homeCount (t .foundation))) (chosen (isUnsafe t) (homeMoves t)) []
         (all-chosen (isUnsafe t) (homeMoves t) all-home) tt
 
-    pub all-tried : AllPlayable (tried t)
+    pub all-tried : AllPlayable t (tried t)
     unfolding tried
     all-tried =
         all-append (chosen (isSafe t) (homeMoves t)) _ (all-chosen (isSafe t) (homeMoves t) all-home)
@@ -92,7 +82,7 @@ module _ (t : Table) where
         (all-append (found t CellToColumn) _ (all-found CellToColumn)
         (all-append (found t ColumnToCell) _ (all-found ColumnToCell) all-late))))
 
-    pub all-candidates : AllPlayable (candidates t)
+    pub all-candidates : AllPlayable t (candidates t)
     unfolding candidates
     all-candidates = all-ordered (tried t) all-tried
 

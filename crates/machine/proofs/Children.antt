@@ -20,8 +20,7 @@ use Rattle.score.specs.Scores.{heuristicKey}
 use Rattle.score.proofs.Bounds.{bounded}
 use Rattle.score.proofs.Keys.{heuristic-adds-most}
 use Rattle.candidates.specs.Children.{childMoves, childTable}
-use Rattle.candidates.specs.Inner.{Bears}
-use Rattle.candidates.proofs.Trying.{Playable}
+use Rattle.candidates.specs.Inner.{Playable, Bears}
 use Rattle.candidates.proofs.Bearing as bearing
 use Rattle.nodes.specs.Step.{costAt}
 use Rattle.nodes.specs.Line.{lineTo, tableTo}

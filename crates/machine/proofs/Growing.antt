@@ -12,8 +12,8 @@ use Rattle.board.specs.Table.{Table}
 use Rattle.moves.specs.declared.Move.{Move}
 use Rattle.moves.proofs.Fairness.{Fair}
 use Rattle.candidates.specs.Candidates.{candidates}
-use Rattle.candidates.specs.Inner.{moveAt, movesIn}
-use Rattle.candidates.proofs.Trying.{Playable, AllPlayable, all-candidates}
+use Rattle.candidates.specs.Inner.{Playable, AllPlayable, moveAt, movesIn}
+use Rattle.candidates.proofs.Trying.{all-candidates}
 use Rattle.nodes.specs.Line.{lineTo, tableTo}
 use Rattle.search.specs.Freecell.{freecell}
 use Rattle.search.specs.Solve.{Node, State, Grown, full, grown, childOf, dropped, noRoom, bearing, bornAs, bear, thenGrow, expand}

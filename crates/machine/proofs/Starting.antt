@@ -36,27 +36,8 @@ use Rattle.machine.specs.declared.Counts.{Counts}
 use Rattle.machine.specs.Memory.{Memory, Fits}
 use Rattle.machine.specs.View.{nodeOf, keyOf, nodesBy, knownBy, stateOf}
 use Rattle.machine.specs.Machine.{told, AllKeyed, Slotted, Machine}
+use Rattle.machine.specs.Steps.{Blank, Rooted, begun}
 use Rattle.machine.proofs.Queueing.{key-number, key-keyed}
-
--- there is room for a node at least, and no entry is used
-pub record Blank (r : Room) (m : Memory) : Type 0 where
-  pub room : Fits r m
-  pub some : 1 ≤ r .capacity
-  pub most : r .entries ≤ 4294967296
-  pub keyed : r .entries ≤ length (m .keys)
-  pub costed : r .entries ≤ length (m .costs)
-  pub free : (i : ℕ) → i < r .entries → getD (m .costs) i 0 ≡ 0
-
--- the root was written: its node, its entry, its key
-pub record Rooted (t : Table) (r : Room) (m new : Memory) (slot : ℕ) : Type 0 where
-  pub spot : Vacant (m .keys) (m .costs) (r .entries) (signatureOf t) slot
-  pub nodes : nodes.Puts (m .nodes) (new .nodes) 0 0 0 slot
-  pub table : Stores (m .keys) (m .costs) (new .keys) (new .costs) (r .entries) slot (signatureOf t) 0
-  pub heap : frontier.Puts (m .heap) (new .heap) 0 (packed (0 + heuristicKey (featuresOf t)) (heuristicKey (featuresOf t)) 0)
-
--- the counts at the start
-abbrev pub begun : Table → Counts
-begun t = record { born = 1; waiting = 1; best = 0; progress = progressKey (featuresOf t); pops = 0 }
 
 -- ---- the table of costs in blank memory
 

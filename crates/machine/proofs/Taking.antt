@@ -15,15 +15,8 @@ use Rattle.machine.specs.declared.Counts.{Counts}
 use Rattle.machine.specs.Memory.{Memory}
 use Rattle.machine.specs.View.{nodeOf, nodesBy, knownBy, stateOf}
 use Rattle.machine.specs.Machine.{AllKeyed, Machine}
+use Rattle.machine.specs.Steps.{withHeap, popped}
 use Rattle.machine.proofs.Within.{waiting-there}
-
--- the memory with another heap
-abbrev pub withHeap : Memory → List ℕ → Memory
-withHeap m heap = record { nodes = m .nodes; heap = heap; keys = m .keys; costs = m .costs }
-
--- one node waits less, one pop is counted more
-abbrev pub popped : Counts → Counts
-popped c = record { born = c .born; waiting = c .waiting - 1; best = c .best; progress = c .progress; pops = c .pops + 1 }
 
 -- ---- nothing waits, or something
 

@@ -27,7 +27,8 @@ use Rattle.machine.specs.declared.Advance.the-variants as advance
 use Rattle.machine.specs.Memory.{Memory}
 use Rattle.machine.specs.View.{nodeOf, stateOf, grownOf, turnOf}
 use Rattle.machine.specs.Machine.{told, Machine}
-use Rattle.machine.proofs.Taking.{withHeap, popped, taken-born, machine-taken, waiting-taken, state-taken}
+use Rattle.machine.specs.Steps.{withHeap, popped}
+use Rattle.machine.proofs.Taking.{taken-born, machine-taken, waiting-taken, state-taken}
 
 -- how a node that was expanded ends the turn
 abbrev pub grew : ℕ → Growth → Advance

@@ -10,7 +10,7 @@ use Rattle.board.specs.Table.{Table}
 use Rattle.moves.specs.Move.{count}
 use Rattle.moves.specs.declared.Move.{Move}
 use Rattle.candidates.specs.Children.{childMoves, childTable}
-use Rattle.candidates.proofs.Trying.{Playable}
+use Rattle.candidates.specs.Inner.{Playable}
 use Rattle.nodes.specs.Step.{stepWord, moveIn, costIn, parentAt, stepAt, slotAt, moveAt, costAt, Puts, Added}
 use Rattle.nodes.specs.Line.{tableTo, lineTo}
 use Rattle.nodes.specs.Nodes.{Makes, Linked, Nodes}

@@ -18,7 +18,7 @@ use Rattle.moves.specs.declared.Move.{Move}
 use Rattle.moves.specs.declared.Move.the-variants.{TableauToTableau, TableauToFoundation, TableauToFreeCell, FreeCellToTableau, FreeCellToFoundation, FoundationToTableau}
 use Rattle.moves.proofs.Records.{placeNumber, said-from, said-to, said-value}
 use Rattle.moves.proofs.Saying.{move-of-record, possible-said, said-of-record}
-use Rattle.candidates.proofs.Trying.{Playable}
+use Rattle.candidates.specs.Inner.{Playable}
 use Rattle.nodes.specs.Step.{Small, stepOf, stepWord, recordIn, moveIn, costIn, Puts, Added}
 use Rattle.nodes.specs.Nodes.{Makes}
 

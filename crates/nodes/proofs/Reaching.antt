@@ -20,7 +20,7 @@ use Rattle.replay.specs.Played.{afterMoves, Legal}
 use Rattle.replay.proofs.Stepping.{fair-laid}
 use Rattle.replay.proofs.Legal.{after-append, legal-append}
 use Rattle.candidates.specs.Children.{childMoves}
-use Rattle.candidates.proofs.Trying.{Playable}
+use Rattle.candidates.specs.Inner.{Playable}
 use Rattle.candidates.proofs.Bearing.{child-legal, child-fair, child-reached, child-some}
 use Rattle.nodes.specs.Step.{moveIn, parentAt, costAt}
 use Rattle.nodes.specs.Line.{stepsTo, tableBy, lineBy, tableTo, lineTo}

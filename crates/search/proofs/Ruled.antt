@@ -9,7 +9,8 @@ use Rattle.replay.specs.Played.{afterMoves, Legal}
 use Rattle.replay.proofs.Legal.{after-none, after-append, legal-append}
 use Rattle.generate.specs.Found.{isIn}
 use Rattle.candidates.specs.Candidates.{candidates}
-use Rattle.candidates.proofs.Trying.{Playable, one-of-all, all-candidates}
+use Rattle.candidates.specs.Inner.{Playable}
+use Rattle.candidates.proofs.Trying.{one-of-all, all-candidates}
 use Rattle.candidates.proofs.Bearing.{child-legal, child-fair, child-reached}
 use Rattle.search.specs.Game.{Laws, among}
 use Rattle.search.specs.Freecell.{freecell}

@@ -13,8 +13,7 @@ use Rattle.moves.specs.Record.{moveOf}
 use Rattle.moves.specs.declared.Move.{Move}
 use Rattle.play.proofs.Playing.{shows-fair}
 use Rattle.candidates.specs.Candidates.{candidates}
-use Rattle.candidates.specs.Inner.{movesIn, moveAt}
-use Rattle.candidates.proofs.Trying.{Playable}
+use Rattle.candidates.specs.Inner.{Playable, movesIn}
 use Rattle.candidates.proofs.Listing.{part-move}
 use Rattle.nodes.specs.Step.{costAt}
 use Rattle.nodes.specs.Line.{tableTo}

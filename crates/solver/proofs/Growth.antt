@@ -18,7 +18,7 @@ use Rattle.signature.specs.Signed.{signatureOf}
 use Rattle.safe.proofs.Chaining.{chain-most}
 use Rattle.candidates.specs.Children.{childMoves}
 use Rattle.candidates.specs.Inner as candidates
-use Rattle.candidates.proofs.Trying.{Playable}
+use Rattle.candidates.specs.Inner.{Playable}
 use Rattle.nodes.specs.Step.{costAt}
 use Rattle.search.specs.Solve.{asGood}
 use Rattle.machine.specs.declared.Room.{Room}

@@ -19,7 +19,7 @@ use Rattle.machine.specs.declared.Room.{Room}
 use Rattle.machine.specs.declared.Counts.{Counts}
 use Rattle.machine.specs.declared.Ended.{Ended}
 use Rattle.machine.specs.Memory.{Memory}
-use Rattle.machine.proofs.Starting.{Blank}
+use Rattle.machine.specs.Steps.{Blank}
 use Rattle.solver.specs.declared.Said.the-variants.{Won}
 use Rattle.solver.specs.declared.Judged.{Judged}
 use Rattle.solver.specs.Inner.{Roomy, Seeds, Goes, Gives, answerBy}

@@ -24,8 +24,9 @@ use Rattle.machine.specs.declared.Counts.{Counts}
 use Rattle.machine.specs.Memory.{Memory}
 use Rattle.machine.specs.View.{stateOf}
 use Rattle.machine.specs.Machine.{Machine}
+use Rattle.machine.specs.Steps.{Blank, Rooted, begun}
 use Rattle.machine.proofs.Children.{hope-small}
-use Rattle.machine.proofs.Starting.{Blank, Rooted, begun, machine-start, state-start, blank-table}
+use Rattle.machine.proofs.Starting.{machine-start, state-start}
 use Rattle.solver.specs.Inner.{Empty, Seeds}
 
 module _ {r : Room} {m : Memory} (b : Blank r m) where

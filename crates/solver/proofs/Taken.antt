@@ -18,8 +18,9 @@ use Rattle.machine.specs.declared.Advance.{Advance}
 use Rattle.machine.specs.declared.Advance.the-variants as advance
 use Rattle.machine.specs.Memory.{Memory}
 use Rattle.machine.specs.Machine.{Machine}
+use Rattle.machine.specs.Steps.{withHeap, popped}
 use Rattle.machine.proofs.Within.{words-there, entry-there, entry-used}
-use Rattle.machine.proofs.Taking.{withHeap, popped, taken-born}
+use Rattle.machine.proofs.Taking.{taken-born}
 use Rattle.solver.specs.Inner.{Stood, Visits, Advances}
 use Rattle.solver.proofs.Turning.{advance-skips, advance-stood, advance-visits}
 

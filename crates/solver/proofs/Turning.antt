@@ -26,7 +26,8 @@ use Rattle.machine.specs.declared.Advance.{Advance}
 use Rattle.machine.specs.declared.Advance.the-variants as advance
 use Rattle.machine.specs.Memory.{Memory}
 use Rattle.machine.specs.Machine.{Machine}
-use Rattle.machine.proofs.Taking.{withHeap, popped, taken-born, machine-taken}
+use Rattle.machine.specs.Steps.{withHeap, popped}
+use Rattle.machine.proofs.Taking.{taken-born, machine-taken}
 use Rattle.machine.proofs.Visiting.{visits-won, visits-deep, visits-on, turns-skip, turn-is}
 use Rattle.solver.specs.Inner.{Stands, Stood, Expands, Visits, Advances}
 

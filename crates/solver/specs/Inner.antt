@@ -19,7 +19,6 @@ use Rattle.costs.specs.CostIn.{costIn}
 use Rattle.costs.specs.Promises.{Held, Vacant, Place}
 use Rattle.signature.specs.Signed.{signatureOf}
 use Rattle.candidates.specs.Candidates.{candidates}
-use Rattle.candidates.proofs.Trying.{Playable}
 use Rattle.nodes.specs.Step.{costAt, slotAt}
 use Rattle.nodes.specs.Line.{lineTo, tableTo}
 use Rattle.nodes.specs.Nodes.{Nodes}
