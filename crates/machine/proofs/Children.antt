@@ -1,4 +1,4 @@
--- The child of a born node: its table is fair, and its numbers fit a node's words and a key.
+-- The child of a born node: its table and its cost, and that its move fits a node's step and its heuristic a key.
 use mathlib.Core.Path.{_≡_, sym, ap, _∙_, subst}
 use Prim.Native.Nat.{ℕ, _+_, _<_, _≤_}
 use native.Mathlib.Omega.{arith}
@@ -69,13 +69,3 @@ module _ {t : Table} (f : Fair t) {r : Room} {m : Memory} {c : Counts} (k : Mach
     (h : Child t m c parent move cost child) where
   pub child-few : count move < 16
   child-few = few-cards (node-fair (k .nodes) parent (h .older) f) (h .playable)
-
-  pub child-fair : Fair child
-  child-fair = subst Fair (sym (h .table)) (bearing.child-fair (tableTo t (m .nodes) parent) (node-fair (k .nodes) parent (h .older) f) move (h .playable))
-
-  pub key-fits : cost ≤ 200 → c .born < r .capacity
-      → packed (cost + heuristicKey (featuresOf child)) (heuristicKey (featuresOf child)) (c .born) < 18446744073709551616
-  key-fits short room =
-      let s = hope-small child child-fair in
-      let n = k .room .few in
-      packed-fits (cost + heuristicKey (featuresOf child)) (heuristicKey (featuresOf child)) (c .born) (omega arith) s (omega arith)

@@ -51,18 +51,6 @@ module _ {r : Room} {m : Memory} (b : Blank r m) where
   pub blank-unused : used (m .costs) (r .entries) ≡ 0
   blank-unused = used-none (m .costs) (r .entries) (b .free)
 
-  -- a key is found to be free, and nothing else
-  module _ {k : ℕ} {s : Slot} (f : Finds (m .keys) (m .costs) (r .entries) k s) where
-    pub blank-not-held : (i : ℕ) → s ≡ slots.At i → ⊥
-    blank-not-held i e =
-        let h = f .held i e .best in
-        let u = blank-unknown k in
-        let z : _≡_ {A = ℕ} 0 1 = cc in
-        omega arith
-
-    pub blank-not-full : s ≡ slots.Full → ⊥
-    blank-not-full e = let u = blank-unused in let l = b .room .spare in used-room (omega arith) f e
-
 -- ---- the root
 
 module _ {t : Table} {r : Room} {m new : Memory} {slot : ℕ} (b : Blank r m) (w : Rooted t r m new slot) where

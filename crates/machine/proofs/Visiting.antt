@@ -30,15 +30,6 @@ use Rattle.machine.specs.Machine.{told, Machine}
 use Rattle.machine.specs.Steps.{withHeap, popped}
 use Rattle.machine.proofs.Taking.{taken-born, machine-taken, waiting-taken, state-taken}
 
--- how a node that was expanded ends the turn
-abbrev pub grew : ℕ → Growth → Advance
-grew pops growth.Full = advance.Stuck pops
-grew pops (growth.Grown c) = advance.Again c
-
-pub grown-turn : (t : Table) (m : Memory) (pops : ℕ) (g : Growth) → grownTurn freecell pops (grownOf t m g) ≡ turnOf t m (grew pops g)
-grown-turn t m pops growth.Full = refl
-grown-turn t m pops (growth.Grown c) = refl
-
 -- ---- a node is visited
 
 module _ {t : Table} {r : Room} {m : Memory} {c : Counts} (k : Machine t r m c) (i : ℕ) (born : i < c .born) where
@@ -121,27 +112,3 @@ module _ {t : Table} {r : Room} {m : Memory} {c : Counts} (k : Machine t r m c) 
       → Turns t (r .capacity) m c (withHeap m X) (advance.Again (popped c))
   turns-skip d =
       turn-is (withHeap m X) (advance.Again (popped c)) (visits-skip (machine-taken k some w) (key % 4294967296) (taken-born k some w) d)
-
-  module _ (current : costs.costAt (m .costs) (nodes.slotAt (m .nodes) (key % 4294967296)) ≡ nodes.costAt (m .nodes) (key % 4294967296)) where
-    pub turns-won : wonOn (tableTo t (m .nodes) (key % 4294967296) .foundation) ≡ true
-        → Turns t (r .capacity) m c (withHeap m X) (advance.WonBy (key % 4294967296) (popped c))
-    turns-won q =
-        turn-is (withHeap m X) (advance.WonBy (key % 4294967296) (popped c))
-        (visits-won (machine-taken k some w) (key % 4294967296) (taken-born k some w) current q)
-
-    module _ (unwon : wonOn (tableTo t (m .nodes) (key % 4294967296) .foundation) ≡ false) where
-      pub turns-deep : 200 ≤ nodes.costAt (m .nodes) (key % 4294967296) → Turns t (r .capacity) m c (withHeap m X) (advance.Again (popped c))
-      turns-deep l =
-          turn-is (withHeap m X) (advance.Again (popped c))
-          (visits-deep (machine-taken k some w) (key % 4294967296) (taken-born k some w) current unwon l)
-
-      -- the node is expanded, and the expansion ends as `g` says in the memory `new`
-      pub turns-on : nodes.costAt (m .nodes) (key % 4294967296) < 200 → (new : Memory) (g : Growth)
-          → expand freecell (r .capacity) (nodeOf t (m .nodes) (key % 4294967296)) (candidates (tableTo t (m .nodes) (key % 4294967296)))
-          (stateOf t (withHeap m X) (popped c))
-          ≡ grownOf t new g
-          → Turns t (r .capacity) m c new (grew (popped c .pops) g)
-      turns-on l new g e =
-          turn-is new (grew (popped c .pops) g)
-          (visits-on (machine-taken k some w) (key % 4294967296) (taken-born k some w) current unwon l
-          ∙ ap (grownTurn freecell (popped c .pops)) e ∙ grown-turn t new (popped c .pops) g)

@@ -27,20 +27,11 @@ module _ {t : Table} {r : Room} {m : Memory} {c : Counts} (k : Machine t r m c) 
   pub spare-entry : used (m .costs) (r .entries) < r .entries
   spare-entry = let a = k .used in let b = k .within in let d = k .room .spare in omega arith
 
-  pub never-full : {key : ℕ} {s : Slot} → Finds (m .keys) (m .costs) (r .entries) key s → s ≡ Full → ⊥
-  never-full f e = used-room spare-entry f e
-
-  pub place-fits : {key slot : ℕ} → Place (m .keys) (m .costs) (r .entries) key slot → slot < 4294967296
-  place-fits p = let a = p .within in let b = k .table .most in omega arith
-
   -- ---- a node
 
   module _ (i : ℕ) (born : i < c .born) where
     pub words-there : (i + 1) * 3 ≤ length (m .nodes)
     words-there = let a = k .nodes .linked .fits in omega arith
-
-    pub number-fits : i < 4294967296
-    number-fits = let a = k .within in let b = k .room .few in omega arith
 
     pub entry-there : slotAt (m .nodes) i < length (m .costs)
     entry-there = let a = k .slots i born .within in let b = k .table .costed in omega arith
@@ -56,6 +47,3 @@ module _ {t : Table} {r : Room} {m : Memory} {c : Counts} (k : Machine t r m c) 
   module _ (room : c .born < r .capacity) where
     pub words-room : (c .born + 1) * 3 ≤ length (m .nodes)
     words-room = let a = k .room .words in omega arith
-
-    pub heap-room : c .waiting < length (m .heap)
-    heap-room = let a = k .room .waits in let b = k .waits in omega arith

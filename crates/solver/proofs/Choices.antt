@@ -18,6 +18,7 @@ use Rattle.costs.proofs.Entries.{used-not, held-used}
 use Rattle.costs.proofs.Slots.{table-none}
 use Rattle.search.specs.Solve.{asGood}
 use Rattle.machine.specs.Machine.{told}
+use Rattle.machine.proofs.Bearing.{held-good, vacant-good}
 use Rattle.solver.specs.Inner.{Chooses, Empty}
 use Rattle.solver.specs.declared.Choice.{Choice}
 use Rattle.solver.specs.declared.Choice.the-variants as choice
@@ -52,20 +53,17 @@ module _ {keys costs : List ℕ} {n k : ℕ} where
       pub held-is-used : isUsed costs i ≡ true
       held-is-used = held-used keys costs i k (held .here)
 
-      best-known : (cost : ℕ) → asGood (told (costIn keys costs n k)) cost ≡ leb (costAt costs i) cost
-      best-known cost = ap (λ (x : KnownCost). asGood (told x) cost) (held .best)
-
       module _ (cost : ℕ) {known : ℕ} (e : known ≡ costAt costs i) where
         pub drops : known ≤ cost → Chooses keys costs n k cost choice.Dropped
-        drops h = dropped-only (best-known cost ∙ le-leb (costAt costs i) cost (omega arith))
+        drops h = dropped-only (held-good held cost ∙ le-leb (costAt costs i) cost (omega arith))
 
         pub lowers : cost < known → Chooses keys costs n k cost (choice.Slot i)
-        lowers h = slot-only i (best-known cost ∙ lt-leb (costAt costs i) cost (omega arith)) (inl held)
+        lowers h = slot-only i (held-good held cost ∙ lt-leb (costAt costs i) cost (omega arith)) (inl held)
 
     pub enters : (cost i : ℕ) → r ≡ Free i → Chooses keys costs n k cost (choice.Slot i)
     enters cost i q =
         let v = f .vacant i q in
-        slot-only i (ap (λ (x : KnownCost). asGood (told x) cost) (v .none)) (inr v)
+        slot-only i (vacant-good v cost) (inr v)
 
 -- ---- a table with nothing in it
 
