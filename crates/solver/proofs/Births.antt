@@ -8,21 +8,19 @@ use lib.ListN.{length}
 use Rattle.board.specs.Record.{shown}
 use Rattle.board.specs.declared.Board.{Board}
 use Rattle.moves.specs.declared.Move.{Move}
-use Rattle.play.proofs.Playing.{shows-fair}
 use Rattle.frontier.specs.Heap.{Puts}
 use Rattle.frontier.specs.Packing.{packed}
 use Rattle.costs.specs.Promises.{Stores}
-use Rattle.score.specs.Features.{Bounded, featuresOf}
+use Rattle.score.specs.Features.{featuresOf}
 use Rattle.score.specs.Scores.{heuristicKey, progressKey}
 use Rattle.score.specs.declared.Features.{Features}
-use Rattle.score.proofs.Bounds.{bounded}
 use Rattle.nodes.specs.Step.{Added}
 use Rattle.machine.specs.declared.Room.{Room}
 use Rattle.machine.specs.declared.Counts.{Counts}
 use Rattle.machine.specs.Memory.{Memory}
 use Rattle.machine.specs.Steps.{countedWith, counted, Wrote}
-use Rattle.machine.proofs.Children.{hope-small}
 use Rattle.solver.specs.Inner.{Birth}
+use Rattle.solver.proofs.Hoping.{hope-is, hope-fits}
 
 module _ (c : Counts) (progress : ℕ) where
   pub counted-higher : c .progress < progress
@@ -37,18 +35,9 @@ module _ (c : Counts) (progress : ℕ) where
 
 module _ {r : Room} {m : Memory} {c : Counts} {parent : ℕ} {move : Move} {cost slot key : ℕ} {child : Board} (b : Birth r m c parent move cost slot key child) where
   module _ {f : Features} (e : f ≡ featuresOf (shown child)) where
-    pub birth-bounded : Bounded f
-    birth-bounded = subst Bounded (sym e) (bounded child (b .sound))
-
     module _ {hope : ℕ} (q : hope ≡ heuristicKey f) where
-      hope-is : hope ≡ heuristicKey (featuresOf (shown child))
-      hope-is = q ∙ ap heuristicKey e
-
-      pub birth-hope : hope < 32768
-      birth-hope = let s = hope-small (shown child) (shows-fair (b .sound)) in let h = hope-is in omega arith
-
       pub birth-sum : cost + hope < 131072
-      birth-sum = let s = birth-hope in let k = b .short in omega arith
+      birth-sum = let s = hope-fits (b .sound) e q in let k = b .short in omega arith
 
       -- node, entry and key are written
       pub wrote : {nodes keys costs heap : List ℕ} {waits : ℕ} → waits ≡ packed (cost + hope) hope (c .born)
@@ -59,7 +48,7 @@ module _ {r : Room} {m : Memory} {c : Counts} {parent : ℕ} {move : Move} {cost
           record {
             nodes = a;
             table = subst (λ (k : ℕ). Stores (m .keys) (m .costs) keys costs (r .entries) slot k cost) (b .signs) s;
-            heap = subst (Puts (m .heap) heap (c .waiting)) (w ∙ ap (λ (h : ℕ). packed (cost + h) h (c .born)) hope-is) p;
+            heap = subst (Puts (m .heap) heap (c .waiting)) (w ∙ ap (λ (h : ℕ). packed (cost + h) h (c .born)) (hope-is (b .sound) e q)) p;
           }
 
     pub counts-on : {d : Counts} {p : ℕ} → p ≡ progressKey f → d ≡ countedWith c p → d ≡ counted c (shown child)

@@ -1,5 +1,6 @@
 -- Laws of the inner functions.
 pub mod Choices
+pub mod Hoping
 pub mod Births
 pub mod Seeding
 pub mod Growth

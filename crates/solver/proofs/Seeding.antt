@@ -7,15 +7,13 @@ use lib.ListN.{length}
 use Rattle.board.specs.Record.{shown}
 use Rattle.board.specs.Inner.{Sound}
 use Rattle.board.specs.declared.Board.{Board}
-use Rattle.play.proofs.Playing.{shows-fair}
 use Rattle.frontier.specs.Heap as frontier
 use Rattle.frontier.specs.Packing.{packed}
 use Rattle.costs.specs.Promises.{Vacant, Stores}
 use Rattle.signature.specs.Signed.{signatureOf}
-use Rattle.score.specs.Features.{Bounded, featuresOf}
+use Rattle.score.specs.Features.{featuresOf}
 use Rattle.score.specs.Scores.{heuristicKey, progressKey}
 use Rattle.score.specs.declared.Features.{Features}
-use Rattle.score.proofs.Bounds.{bounded}
 use Rattle.nodes.specs.Step as nodes
 use Rattle.search.specs.Freecell.{freecell}
 use Rattle.search.specs.Solve.{start}
@@ -25,9 +23,9 @@ use Rattle.machine.specs.Memory.{Memory}
 use Rattle.machine.specs.View.{stateOf}
 use Rattle.machine.specs.Machine.{Machine}
 use Rattle.machine.specs.Steps.{Blank, Rooted, begun}
-use Rattle.machine.proofs.Children.{hope-small}
 use Rattle.machine.proofs.Starting.{machine-start, state-start}
 use Rattle.solver.specs.Inner.{Empty, Seeds}
+use Rattle.solver.proofs.Hoping.{hope-is}
 
 module _ {r : Room} {m : Memory} (b : Blank r m) where
   pub blank-empty : Empty (m .keys) (m .costs) (r .entries)
@@ -43,16 +41,7 @@ module _ {r : Room} {m : Memory} (b : Blank r m) where
   seed-slot v = let w = v .place .within in let h = b .most in omega arith
 
   module _ {root : Board} (s : Sound root) {f : Features} (e : f ≡ featuresOf (shown root)) where
-    pub seed-bounded : Bounded f
-    seed-bounded = subst Bounded (sym e) (bounded root s)
-
     module _ {hope : ℕ} (q : hope ≡ heuristicKey f) where
-      hope-is : hope ≡ heuristicKey (featuresOf (shown root))
-      hope-is = q ∙ ap heuristicKey e
-
-      pub seed-hope : hope < 32768
-      seed-hope = let h = hope-small (shown root) (shows-fair s) in let k = hope-is in omega arith
-
       pub seeded : {key slot waits p : ℕ} {words heap keys costs : List ℕ} → key ≡ signatureOf (shown root)
           → Vacant (m .keys) (m .costs) (r .entries) key slot → nodes.Puts (m .nodes) words 0 0 0 slot
           → Stores (m .keys) (m .costs) keys costs (r .entries) slot key 0 → waits ≡ packed hope hope 0 → frontier.Puts (m .heap) heap 0 waits → p ≡ progressKey f
@@ -71,5 +60,5 @@ module _ {r : Room} {m : Memory} (b : Blank r m) where
                 spot = subst (λ (k : ℕ). Vacant (m .keys) (m .costs) (r .entries) k slot) signs v;
                 nodes = n;
                 table = subst (λ (k : ℕ). Stores (m .keys) (m .costs) keys costs (r .entries) slot k 0) signs st;
-                heap = subst (frontier.Puts (m .heap) heap 0) (w ∙ ap (λ (x : ℕ). packed x x 0) hope-is ∙ ap (λ (x : ℕ). packed x (heuristicKey (featuresOf (shown root))) 0) (let z : heuristicKey (featuresOf (shown root)) ≡ 0 + heuristicKey (featuresOf (shown root)) = omega arith in z)) h;
+                heap = subst (frontier.Puts (m .heap) heap 0) (w ∙ ap (λ (x : ℕ). packed x x 0) (hope-is s e q) ∙ ap (λ (x : ℕ). packed x (heuristicKey (featuresOf (shown root))) 0) (let z : heuristicKey (featuresOf (shown root)) ≡ 0 + heuristicKey (featuresOf (shown root)) = omega arith in z)) h;
               }

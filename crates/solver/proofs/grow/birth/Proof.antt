@@ -1,6 +1,7 @@
 -- What `birth` leaves to be shown: all that is written fits.
 use native.Mathlib.Omega.{arith}
-use Rattle.solver.proofs.Births.{birth-bounded, birth-hope, birth-sum, wrote, counts-on, birth-words, birth-number, birth-heap, birth-slot}
+use Rattle.solver.proofs.Hoping.{board-bounded, hope-fits}
+use Rattle.solver.proofs.Births.{birth-sum, wrote, counts-on, birth-words, birth-number, birth-heap, birth-slot}
 use borrow.Author.Needs.{needs}
 use Rattle.solver.proofs.grow.birth.Statement.{statement}
 use Rattle.solver.proofs.grow.birth.Tie as tie
@@ -9,13 +10,13 @@ compute-features-requires : tie.Need-compute-features-requires
 compute-features-requires c κs = c .before .before .before .before .before .before .before .before .before .pre .sound
 
 heuristic-key-requires : tie.Need-heuristic-key-requires
-heuristic-key-requires c κs = birth-bounded (c .before .before .before .before .before .before .before .before .before .before .pre) (c .compute-features .ensures)
+heuristic-key-requires c κs = board-bounded (c .before .before .before .before .before .before .before .before .before .before .pre .sound) (c .compute-features .ensures)
 
 add-sum : tie.Need-add-sum
 add-sum c = omega (arith, birth-sum (c .before .before .before .before .before .before .before .before .before .before .before .pre) (c .before .compute-features .ensures) (c .heuristic-key .ensures))
 
 pack-requires : tie.Need-pack-requires
-pack-requires c κs = (birth-sum (c .before .before .before .before .before .before .before .before .before .before .before .pre) (c .before .compute-features .ensures) (c .heuristic-key .ensures), (birth-hope (c .before .before .before .before .before .before .before .before .before .before .before .pre) (c .before .compute-features .ensures) (c .heuristic-key .ensures), birth-number (c .before .before .before .before .before .before .before .before .before .before .before .pre)))
+pack-requires c κs = (birth-sum (c .before .before .before .before .before .before .before .before .before .before .before .pre) (c .before .compute-features .ensures) (c .heuristic-key .ensures), (hope-fits (c .before .before .before .before .before .before .before .before .before .before .before .pre .sound) (c .before .compute-features .ensures) (c .heuristic-key .ensures), birth-number (c .before .before .before .before .before .before .before .before .before .before .before .pre)))
 
 cast-byte : tie.Need-cast-byte
 cast-byte c = omega (arith, c .before .before .before .before .before .before .before .before .before .before .before .before .pre .short)
@@ -30,7 +31,7 @@ put-requires : tie.Need-put-requires
 put-requires c κs = (birth-heap (c .before .before .before .before .before .before .before .before .before .before .before .before .before .before .before .before .before .before .before .before .before .before .before .before .pre), c .before .before .before .before .before .before .before .before .before .before .before .before .before .before .before .before .before .before .before .before .before .before .before .before .pre .heap)
 
 progress-key-requires : tie.Need-progress-key-requires
-progress-key-requires c κs = birth-bounded (c .before .before .before .before .before .before .before .before .before .before .before .before .before .before .before .before .before .before .before .before .before .before .before .before .before .before .before .pre) (c .before .before .before .before .before .before .before .before .before .before .before .before .before .before .before .before .before .compute-features .ensures)
+progress-key-requires c κs = board-bounded (c .before .before .before .before .before .before .before .before .before .before .before .before .before .before .before .before .before .before .before .before .before .before .before .before .before .before .before .pre .sound) (c .before .before .before .before .before .before .before .before .before .before .before .before .before .before .before .before .before .compute-features .ensures)
 
 count-birth-requires : tie.Need-count-birth-requires
 count-birth-requires c κs = (birth-number (c .before .before .before .before .before .before .before .before .before .before .before .before .before .before .before .before .before .before .before .before .before .before .before .before .before .before .before .before .pre), c .before .before .before .before .before .before .before .before .before .before .before .before .before .before .before .before .before .before .before .before .before .before .before .before .before .before .before .before .pre .waits)

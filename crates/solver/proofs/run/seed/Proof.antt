@@ -2,7 +2,8 @@
 use native.Mathlib.Omega.{arith}
 use Rattle.machine.proofs.Starting.{blank-table}
 use Rattle.frontier.proofs.Order.{heap-none}
-use Rattle.solver.proofs.Seeding.{blank-empty, seed-words, seed-heap, seed-slot, seed-bounded, seed-hope, seeded}
+use Rattle.solver.proofs.Hoping.{board-bounded, hope-fits}
+use Rattle.solver.proofs.Seeding.{blank-empty, seed-words, seed-heap, seed-slot, seeded}
 use borrow.Author.Needs.{needs}
 use Rattle.solver.proofs.run.seed.Statement.{statement}
 use Rattle.solver.proofs.run.seed.Tie as tie
@@ -11,7 +12,7 @@ compute-features-requires : tie.Need-compute-features-requires
 compute-features-requires c κs = c .before .before .before .before .before .before .before .before .before .pre .0
 
 heuristic-key-requires : tie.Need-heuristic-key-requires
-heuristic-key-requires c κs = seed-bounded (c .before .before .before .before .before .before .before .before .before .before .pre .1) (c .before .before .before .before .before .before .before .before .before .before .pre .0) (c .compute-features .ensures)
+heuristic-key-requires c κs = board-bounded (c .before .before .before .before .before .before .before .before .before .before .pre .0) (c .compute-features .ensures)
 
 signature-at-requires : tie.Need-signature-at-requires
 signature-at-requires c κs = c .before .before .before .before .before .before .before .before .before .before .before .before .before .before .before .before .pre .0
@@ -26,13 +27,13 @@ store-requires : tie.Need-store-requires
 store-requires c κs = (blank-table (c .before .before .before .before .before .before .before .before .before .before .before .before .before .before .before .before .before .before .before .before .before .before .before .before .before .before .pre .1), (c .before .before .before .before .before .before .first-slot .ensures .place, omega arith))
 
 pack-requires : tie.Need-pack-requires
-pack-requires c κs = (omega (arith, seed-hope (c .before .before .before .before .before .before .before .before .before .before .before .before .before .before .before .before .before .before .before .before .before .before .before .before .before .before .before .before .before .before .before .before .pre .1) (c .before .before .before .before .before .before .before .before .before .before .before .before .before .before .before .before .before .before .before .before .before .before .before .before .before .before .before .before .before .before .before .before .pre .0) (c .before .before .before .before .before .before .before .before .before .before .before .before .before .before .before .before .before .before .before .before .before .before .compute-features .ensures) (c .before .before .before .before .before .before .before .before .before .before .before .before .before .before .before .before .before .before .before .before .before .heuristic-key .ensures)), (seed-hope (c .before .before .before .before .before .before .before .before .before .before .before .before .before .before .before .before .before .before .before .before .before .before .before .before .before .before .before .before .before .before .before .before .pre .1) (c .before .before .before .before .before .before .before .before .before .before .before .before .before .before .before .before .before .before .before .before .before .before .before .before .before .before .before .before .before .before .before .before .pre .0) (c .before .before .before .before .before .before .before .before .before .before .before .before .before .before .before .before .before .before .before .before .before .before .compute-features .ensures) (c .before .before .before .before .before .before .before .before .before .before .before .before .before .before .before .before .before .before .before .before .before .heuristic-key .ensures), omega arith))
+pack-requires c κs = (omega (arith, hope-fits (c .before .before .before .before .before .before .before .before .before .before .before .before .before .before .before .before .before .before .before .before .before .before .before .before .before .before .before .before .before .before .before .before .pre .0) (c .before .before .before .before .before .before .before .before .before .before .before .before .before .before .before .before .before .before .before .before .before .before .compute-features .ensures) (c .before .before .before .before .before .before .before .before .before .before .before .before .before .before .before .before .before .before .before .before .before .heuristic-key .ensures)), (hope-fits (c .before .before .before .before .before .before .before .before .before .before .before .before .before .before .before .before .before .before .before .before .before .before .before .before .before .before .before .before .before .before .before .before .pre .0) (c .before .before .before .before .before .before .before .before .before .before .before .before .before .before .before .before .before .before .before .before .before .before .compute-features .ensures) (c .before .before .before .before .before .before .before .before .before .before .before .before .before .before .before .before .before .before .before .before .before .heuristic-key .ensures), omega arith))
 
 put-requires : tie.Need-put-requires
 put-requires c κs = (seed-heap (c .before .before .before .before .before .before .before .before .before .before .before .before .before .before .before .before .before .before .before .before .before .before .before .before .before .before .before .before .before .before .before .before .before .pre .1), heap-none _)
 
 progress-key-requires : tie.Need-progress-key-requires
-progress-key-requires c κs = seed-bounded (c .before .before .before .before .before .before .before .before .before .before .before .before .before .before .before .before .before .before .before .before .before .before .before .before .before .before .before .before .before .before .before .before .before .before .before .before .pre .1) (c .before .before .before .before .before .before .before .before .before .before .before .before .before .before .before .before .before .before .before .before .before .before .before .before .before .before .before .before .before .before .before .before .before .before .before .before .pre .0) (c .before .before .before .before .before .before .before .before .before .before .before .before .before .before .before .before .before .before .before .before .before .before .before .before .before .before .compute-features .ensures)
+progress-key-requires c κs = board-bounded (c .before .before .before .before .before .before .before .before .before .before .before .before .before .before .before .before .before .before .before .before .before .before .before .before .before .before .before .before .before .before .before .before .before .before .before .before .pre .0) (c .before .before .before .before .before .before .before .before .before .before .before .before .before .before .before .before .before .before .before .before .before .before .before .before .before .before .compute-features .ensures)
 
 same-length : tie.Need-same-length
 same-length c = search needs
