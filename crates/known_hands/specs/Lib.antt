@@ -1,3 +1,4 @@
 -- Read these in this order.
 pub mod Boards
 pub mod Hands
+pub mod Answered

@@ -12,4 +12,6 @@ pub mod Going
 pub mod Handing
 pub mod Judging
 pub mod Accepting
+pub mod Calls
 pub mod Masters
+pub mod Unique

@@ -1,0 +1,20 @@
+-- A call of the search is answered as a hand says.
+use mathlib.Core.Path.{_≡_}
+use mathlib.Core.Bool.{true}
+use mathlib.Core.List.{List}
+use Prim.Native.Nat.{ℕ}
+use Rattle.board.specs.declared.Board.{Board}
+use Rattle.moves.specs.declared.Move.{Move}
+use Rattle.generate.specs.Asked.{written}
+use Rattle.search.specs.Solve.{Perhaps}
+use Rattle.solver.specs.Searched.{movesOf}
+use Rattle.solver.specs.Told.{Call, number}
+use Rattle.known_hands.specs.Hands.{sameList}
+
+-- number n, p pops, and a list with the bytes l at the start of the list buffer
+pub record Answers {b : Board} (c : Call b) (n p : ℕ) (l : Perhaps (List ℕ)) : Type 0 where
+  pub answer : number c ≡ n
+  pub pops : c .result .pops ≡ p
+  pub moves : Perhaps (List Move)
+  pub said : sameList moves l ≡ true
+  pub list : c .listAfter ≡ written (c .list) 0 (movesOf moves)

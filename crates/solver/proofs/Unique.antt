@@ -1,0 +1,69 @@
+-- One result only: what `solve` hands back and leaves is determined.
+use mathlib.Core.Path.{_≡_, refl, sym, ap, _∙_}
+use mathlib.Core.Bool.{Bool, cond}
+use mathlib.Core.List.{List}
+use Prim.Native.Nat.{ℕ}
+use lib.Dec.{eqb}
+use Rattle.board.specs.Refusal.{numberOf}
+use Rattle.board.specs.declared.Board.{Board}
+use Rattle.board.specs.declared.Refusal.{Refusal}
+use Rattle.board.specs.declared.Refusal.the-variants as refusal
+use Rattle.board.proofs.Unique.{whyOf, why-law}
+use Rattle.machine.specs.Memory.{Memory}
+use Rattle.solver.specs.Searched.{Outcome, outcome, saidNumber, searched}
+use Rattle.solver.specs.declared.Said.{Said}
+use Rattle.solver.specs.declared.Said.the-variants.{Won, BestAtLimit, BestExhausted, Limit, Exhausted, NoRoom, Refused}
+use Rattle.solver.specs.declared.Judged.{Judged}
+use Rattle.solver.specs.Told.{Call}
+
+-- what is said with a number
+saidOf : ℕ → Said
+saidOf n = cond (eqb n 0) Won (cond (eqb n 1) BestAtLimit (cond (eqb n 2) BestExhausted (cond (eqb n 3) Limit (cond (eqb n 4) Exhausted (cond (eqb n 23) NoRoom (Refused (whyOf n)))))))
+
+why-said : (w : Refusal) → saidOf (numberOf w) ≡ Refused w
+unfolding saidOf
+why-said refusal.WrongLength = ap Refused (why-law refusal.WrongLength)
+why-said refusal.WrongVersion = ap Refused (why-law refusal.WrongVersion)
+why-said refusal.WrongShape = ap Refused (why-law refusal.WrongShape)
+why-said refusal.NoCard = ap Refused (why-law refusal.NoCard)
+why-said refusal.CardTwice = ap Refused (why-law refusal.CardTwice)
+why-said refusal.CardMissing = ap Refused (why-law refusal.CardMissing)
+why-said refusal.NoDeck = ap Refused (why-law refusal.NoDeck)
+why-said refusal.OverBudget = ap Refused (why-law refusal.OverBudget)
+why-said refusal.NoRoom = ap Refused (why-law refusal.NoRoom)
+why-said refusal.NoNode = ap Refused (why-law refusal.NoNode)
+why-said refusal.OutOfRange = ap Refused (why-law refusal.OutOfRange)
+why-said refusal.WrongList = ap Refused (why-law refusal.WrongList)
+
+said-law : (s : Said) → saidOf (saidNumber s) ≡ s
+unfolding saidOf
+said-law Won = refl
+said-law BestAtLimit = refl
+said-law BestExhausted = refl
+said-law Limit = refl
+said-law Exhausted = refl
+said-law NoRoom = refl
+said-law (Refused w) = why-said w
+
+-- of `solve`: what is handed back and every lent byte are determined
+module _ {b : Board} (x y : Call b) where
+  same-outcome : x .budget ≡ y .budget → x .partial ≡ y .partial → x .scratch ≡ y .scratch → x .list ≡ y .list
+      → outcome (x .result) (x .scratchAfter .nodes) (x .scratchAfter .heap) (x .scratchAfter .keys) (x .scratchAfter .costs) (x .listAfter)
+      ≡ outcome (y .result) (y .scratchAfter .nodes) (y .scratchAfter .heap) (y .scratchAfter .keys) (y .scratchAfter .costs) (y .listAfter)
+  same-outcome p q r s =
+      x .holds
+      ∙ ap (λ (n : ℕ). searched (x .scratch .nodes) (x .scratch .heap) (x .scratch .keys) (x .scratch .costs) (x .list) b n (x .partial)) p
+      ∙ ap (λ (f : Bool). searched (x .scratch .nodes) (x .scratch .heap) (x .scratch .keys) (x .scratch .costs) (x .list) b (y .budget) f) q
+      ∙ ap (λ (m : Memory). searched (m .nodes) (m .heap) (m .keys) (m .costs) (x .list) b (y .budget) (y .partial)) r
+      ∙ ap (λ (l : List ℕ). searched (y .scratch .nodes) (y .scratch .heap) (y .scratch .keys) (y .scratch .costs) l b (y .budget) (y .partial)) s
+      ∙ sym (y .holds)
+
+  pub solve-once : x .budget ≡ y .budget → x .partial ≡ y .partial → x .scratch ≡ y .scratch → x .list ≡ y .list
+      → (x .result ≡ y .result) × ((x .scratchAfter ≡ y .scratchAfter) × (x .listAfter ≡ y .listAfter))
+  solve-once p q r s =
+      let o = same-outcome p q r s in (
+        sym (ap (λ (f : Said). let j : Judged = record { said = f; pops = x .result .pops; moves = x .result .moves } in j) (said-law (x .result .said)))
+            ∙ ap (λ (v : Outcome). let j : Judged = record { said = saidOf (v .number); pops = v .pops; moves = v .moves } in j) o
+            ∙ ap (λ (f : Said). let j : Judged = record { said = f; pops = y .result .pops; moves = y .result .moves } in j) (said-law (y .result .said)),
+        (ap (λ (v : Outcome). let m : Memory = record { nodes = v .nodes; heap = v .heap; keys = v .keys; costs = v .costs } in m) o, ap (λ (v : Outcome). v .list) o),
+      )
