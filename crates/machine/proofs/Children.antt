@@ -1,6 +1,6 @@
 -- The child of a born node: its table and its cost, and that its move fits a node's step and its heuristic a key.
-use mathlib.Core.Path.{_≡_, sym, ap, _∙_, subst}
-use Prim.Native.Nat.{ℕ, _+_, _<_, _≤_}
+use mathlib.Core.Path.{_≡_, ap, _∙_, subst}
+use Prim.Native.Nat.{ℕ, _+_, _<_}
 use native.Mathlib.Omega.{arith}
 use lib.ListN.{length}
 use Rattle.board.specs.Table.{Table}
@@ -13,8 +13,6 @@ use Rattle.moves.proofs.Fairness.{Fair}
 use Rattle.play.specs.Change.{Ready}
 use Rattle.play.proofs.Playing.{shows-fair}
 use Rattle.replay.proofs.Stepping.{fair-laid, fair-sound}
-use Rattle.frontier.specs.Packing.{packed}
-use Rattle.frontier.proofs.Packed.{packed-fits}
 use Rattle.score.specs.Features.{Bounded, featuresOf}
 use Rattle.score.specs.Scores.{heuristicKey}
 use Rattle.score.proofs.Bounds.{bounded}

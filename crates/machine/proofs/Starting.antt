@@ -7,33 +7,28 @@ use native.Mathlib.Omega.{arith}
 use native.Mathlib.Decide.{ℕ-discrete}
 use borrow.Author.Tests.{eq-eqb, ne-eqb}
 use lib.Dec.{eqb}
-use lib.ListN.{length, getD}
+use lib.ListN.{length}
 use Rattle.board.specs.Table.{Table}
 use Rattle.order.specs.Rising.{placed}
 use Rattle.order.proofs.Placed.{placed-alone}
 use Rattle.frontier.specs.Heap as frontier
 use Rattle.frontier.specs.Packing.{packed}
 use Rattle.frontier.proofs.Bags.{bag-none}
-use Rattle.costs.specs.declared.Slot.{Slot}
-use Rattle.costs.specs.declared.Slot.the-variants as slots
 use Rattle.costs.specs.Entries.{holds, used}
 use Rattle.costs.specs.CostIn.{unknown, costIn}
 use Rattle.costs.specs.Table as costs
-use Rattle.costs.specs.Promises.{Vacant, Finds, Stores}
 use Rattle.costs.proofs.Slots.{table-none, unknown-none, slot-new}
-use Rattle.costs.proofs.Counting.{used-none, used-vacant, used-room}
+use Rattle.costs.proofs.Counting.{used-none, used-vacant}
 use Rattle.signature.specs.Signed.{signatureOf}
 use Rattle.score.specs.Features.{featuresOf}
 use Rattle.score.specs.Scores.{heuristicKey, progressKey}
-use Rattle.nodes.specs.Step as nodes
 use Rattle.nodes.specs.Line.{lineTo, tableTo}
 use Rattle.nodes.proofs.Climbing.{line-root, table-root}
 use Rattle.nodes.proofs.Adding.{set-long, new-slot, nodes-root}
 use Rattle.search.specs.Freecell.{freecell}
 use Rattle.search.specs.Solve.{none, some, costOf, start}
 use Rattle.machine.specs.declared.Room.{Room}
-use Rattle.machine.specs.declared.Counts.{Counts}
-use Rattle.machine.specs.Memory.{Memory, Fits}
+use Rattle.machine.specs.Memory.{Memory}
 use Rattle.machine.specs.View.{nodeOf, keyOf, nodesBy, knownBy, stateOf}
 use Rattle.machine.specs.Machine.{told, AllKeyed, Slotted, Machine}
 use Rattle.machine.specs.Steps.{Blank, Rooted, begun}

@@ -17,15 +17,13 @@ use Rattle.candidates.specs.Candidates.{candidates}
 use Rattle.nodes.specs.Step as nodes
 use Rattle.nodes.specs.Line.{lineTo, tableTo}
 use Rattle.search.specs.Freecell.{freecell}
-use Rattle.search.specs.Solve.{some, Node, State, Grown, End, Turn, differs, costOf, expand, grownTurn, visitAs, visit, onward, goOn}
+use Rattle.search.specs.Solve.{some, Node, State, End, Turn, differs, costOf, expand, grownTurn, visitAs, visit, onward, goOn}
 use Rattle.machine.specs.declared.Room.{Room}
 use Rattle.machine.specs.declared.Counts.{Counts}
-use Rattle.machine.specs.declared.Growth.{Growth}
-use Rattle.machine.specs.declared.Growth.the-variants as growth
 use Rattle.machine.specs.declared.Advance.{Advance}
 use Rattle.machine.specs.declared.Advance.the-variants as advance
 use Rattle.machine.specs.Memory.{Memory}
-use Rattle.machine.specs.View.{nodeOf, stateOf, grownOf, turnOf}
+use Rattle.machine.specs.View.{nodeOf, stateOf, turnOf}
 use Rattle.machine.specs.Machine.{told, Machine}
 use Rattle.machine.specs.Steps.{withHeap, popped}
 use Rattle.machine.proofs.Taking.{taken-born, machine-taken, waiting-taken, state-taken}

@@ -5,12 +5,8 @@ use Prim.Native.Nat.{ℕ, _+_, _*_, _<_, _≤_}
 use native.Mathlib.Omega.{arith}
 use lib.ListN.{length}
 use Rattle.board.specs.Table.{Table}
-use Rattle.costs.specs.declared.Slot.{Slot}
-use Rattle.costs.specs.declared.Slot.the-variants.{Full}
 use Rattle.costs.specs.Entries.{isUsed, used}
-use Rattle.costs.specs.Promises.{Place, Finds}
 use Rattle.costs.proofs.Entries.{held-used}
-use Rattle.costs.proofs.Counting.{used-room}
 use Rattle.signature.specs.Signed.{signatureOf}
 use Rattle.nodes.specs.Step.{slotAt, costAt}
 use Rattle.nodes.specs.Line.{tableTo}

@@ -1,15 +1,14 @@
 -- What is known of a child's board decides whether it is dropped.
-use mathlib.Core.Path.{_≡_, sym, ap, _∙_, subst}
+use mathlib.Core.Path.{_≡_, sym, _∙_, subst}
 use mathlib.Core.Bool.{true, false}
 use mathlib.Core.List.{List}
 use mathlib.Core.Logic.{_⊎_, inl, inr}
 use Prim.Native.Nat.{ℕ, _<_, _≤_}
 use native.Mathlib.Omega.{arith}
 use borrow.Author.Tests.{le-leb, lt-leb}
-use lib.Dec.{leb}
 use lib.ListN.{length}
 use Rattle.costs.specs.Entries.{isUsed, costAt}
-use Rattle.costs.specs.CostIn.{KnownCost, unknown, known, costIn}
+use Rattle.costs.specs.CostIn.{costIn}
 use Rattle.costs.specs.Table.{Table}
 use Rattle.costs.specs.Promises.{Held, Vacant, Finds}
 use Rattle.costs.specs.declared.Slot.{Slot}
@@ -20,7 +19,6 @@ use Rattle.search.specs.Solve.{asGood}
 use Rattle.machine.specs.Machine.{told}
 use Rattle.machine.proofs.Bearing.{held-good, vacant-good}
 use Rattle.solver.specs.Inner.{Chooses, Empty}
-use Rattle.solver.specs.declared.Choice.{Choice}
 use Rattle.solver.specs.declared.Choice.the-variants as choice
 
 module _ {keys costs : List ℕ} {n k : ℕ} where

@@ -1,13 +1,10 @@
 -- The children of a node, one after the other.
 use mathlib.Core.Path.{_≡_, refl, sym, ap, _∙_, subst}
-use mathlib.Core.Bool.{true}
 use mathlib.Core.List.{List, _∷_}
 use Prim.Native.Nat.{ℕ, _+_, _-_, _*_, _<_, _≤_}
 use native.Mathlib.Omega.{arith}
 use lib.ListN.{length, take, drop}
-use Rattle.board.specs.Table.{Table}
 use Rattle.board.specs.Record.{shown}
-use Rattle.board.specs.Inner.{Sound}
 use Rattle.board.specs.declared.Board.{Board}
 use Rattle.moves.specs.Record.{moveOf}
 use Rattle.moves.specs.declared.Move.{Move}
@@ -17,14 +14,11 @@ use Rattle.candidates.specs.Inner.{Playable, movesIn}
 use Rattle.candidates.proofs.Listing.{part-move}
 use Rattle.nodes.specs.Step.{costAt}
 use Rattle.nodes.specs.Line.{tableTo}
-use Rattle.search.specs.Freecell.{freecell}
-use Rattle.search.specs.Solve.{bear}
 use Rattle.machine.specs.declared.Room.{Room}
 use Rattle.machine.specs.declared.Counts.{Counts}
 use Rattle.machine.specs.declared.Growth.{Growth}
 use Rattle.machine.specs.declared.Growth.the-variants as growth
 use Rattle.machine.specs.Memory.{Memory}
-use Rattle.machine.specs.View.{nodeOf, stateOf, grownOf}
 use Rattle.machine.proofs.Growing.{many-moves, next-move, next-playable, Growing, growing-start, kept-table, kept-line, growing-end, growing-turn, growing-full}
 use Rattle.solver.specs.Inner.{SameSize, Stands, Bears, Expands}
 

@@ -15,13 +15,8 @@ use Rattle.score.specs.Features.{featuresOf}
 use Rattle.score.specs.Scores.{heuristicKey, progressKey}
 use Rattle.score.specs.declared.Features.{Features}
 use Rattle.nodes.specs.Step as nodes
-use Rattle.search.specs.Freecell.{freecell}
-use Rattle.search.specs.Solve.{start}
 use Rattle.machine.specs.declared.Room.{Room}
-use Rattle.machine.specs.declared.Counts.{Counts}
 use Rattle.machine.specs.Memory.{Memory}
-use Rattle.machine.specs.View.{stateOf}
-use Rattle.machine.specs.Machine.{Machine}
 use Rattle.machine.specs.Steps.{Blank, Rooted, begun}
 use Rattle.machine.proofs.Starting.{machine-start, state-start}
 use Rattle.solver.specs.Inner.{Empty, Seeds}

@@ -1,13 +1,13 @@
 -- What the inner functions of the search ask and promise.
 use mathlib.Core.Path.{_≡_}
 use mathlib.Core.Bool.{Bool, true, false, not, _&&_}
-use mathlib.Core.List.{List, [], _∷_}
+use mathlib.Core.List.{List, []}
 use mathlib.Core.Logic.{_⊎_}
-use Prim.Native.Nat.{ℕ, _+_, _-_, _*_, _<_, _≤_}
+use Prim.Native.Nat.{ℕ, _+_, _<_, _≤_}
 use lib.Dec.{eqb}
 use lib.ListN.{length, getD}
 use Rattle.board.specs.Table.{Table}
-use Rattle.board.specs.Record.{shown, boardOf}
+use Rattle.board.specs.Record.{shown}
 use Rattle.board.specs.Inner.{Sound}
 use Rattle.board.specs.declared.Board.{Board}
 use Rattle.moves.specs.Move.{sayable, count}
@@ -35,7 +35,6 @@ use Rattle.machine.specs.declared.Ended.the-variants as ended
 use Rattle.machine.specs.Memory.{Memory, Fits}
 use Rattle.machine.specs.View.{nodeOf, stateOf, grownOf, turnOf, endOf}
 use Rattle.machine.specs.Machine.{told, Machine}
-use Rattle.machine.specs.Steps.{Spot}
 use Rattle.generate.specs.Asked.{written}
 use Rattle.board.specs.Refusal.{examinedTold}
 use Rattle.board.specs.declared.Examined.{Examined}

@@ -1,12 +1,9 @@
 // A node's children, one after the other (after freecell/solver.rs, the loop over `expansions`).
 ghost use mathlib.Core.Path.{_≡_};
-ghost use Prim.Native.Nat.{_+_, _<_, _≤_};
-ghost use lib.ListN.{length};
+ghost use Prim.Native.Nat.{_<_, _≤_};
 ghost use Rattle.board.specs.Record.{shown};
 ghost use Rattle.costs.specs.Entries.{used};
 ghost use Rattle.costs.specs.Table.{Table};
-ghost use Rattle.score.specs.Features.{featuresOf};
-ghost use Rattle.score.specs.Scores.{progressKey};
 ghost use Rattle.candidates.specs.Candidates.{candidates};
 ghost use Rattle.candidates.specs.Inner.{Playable, movesIn, Records};
 ghost use Rattle.nodes.specs.Step.{costAt};

@@ -1,7 +1,6 @@
 // The run: the root, then a node taken at each turn (after freecell/solver.rs, the loop over the frontier).
 ghost use mathlib.Core.Path.{_≡_};
 ghost use Prim.Native.Nat.{_<_, _≤_};
-ghost use lib.ListN.{length};
 ghost use Rattle.board.specs.Record.{shown};
 ghost use Rattle.board.specs.Inner.{Sound};
 ghost use Rattle.nodes.specs.Step.{costAt};
