@@ -1,6 +1,6 @@
 -- A loop that clears a slice place by place, whatever its width; and what a cleared slice reads.
-use mathlib.Core.Path.{_≡_, refl, ap, _∙_}
-use mathlib.Core.List.{List, _++_, append-nil}
+use mathlib.Core.Path.{_≡_, refl, ap, ap₂, _∙_}
+use mathlib.Core.List.{List, [], _∷_, _++_, append-nil}
 use Prim.Native.Nat.{ℕ, zero, suc, _+_, _<_, _≤_}
 use native.Mathlib.Omega.{arith}
 use borrow.Author.Fill.{fill-more}
@@ -24,6 +24,20 @@ blank-reads old i = zeros (length old) i
     zeros zero k = refl
     zeros (suc n) zero = refl
     zeros (suc n) (suc k) = zeros n k
+
+-- what reads 0 everywhere is clear
+pub reads-blank : (l old : List ℕ) → length l ≡ length old → ((i : ℕ) → getD l i 0 ≡ 0) → l ≡ blank old
+unfolding blank
+reads-blank l old e free = zeros l free ∙ ap (λ (n : ℕ). replicate {A = ℕ} n 0) e
+  where
+    zeros : (m : List ℕ) → ((i : ℕ) → getD m i 0 ≡ 0) → m ≡ replicate {A = ℕ} (length m) 0
+    zeros [] f = refl
+    zeros (x ∷ m) f = ap₂ (λ (y : ℕ) (k : List ℕ). y ∷ k) (f 0) (zeros m (λ i. f (suc i)))
+
+-- lists of one length are cleared alike
+pub blank-same : (a b : List ℕ) → length a ≡ length b → blank a ≡ blank b
+unfolding blank
+blank-same a b e = ap (λ (n : ℕ). replicate {A = ℕ} n 0) e
 
 pub blank-to-long : (old : List ℕ) (n : ℕ) → n ≤ length old → length (blankTo old n) ≡ length old
 unfolding blankTo

@@ -1,6 +1,7 @@
 -- Laws for the crates above. Read these in this order.
 pub mod Within
 pub mod Children
+pub mod Tracing
 pub mod Queueing
 pub mod Writing
 pub mod Bearing

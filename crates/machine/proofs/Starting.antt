@@ -32,19 +32,20 @@ use Rattle.machine.specs.Memory.{Memory}
 use Rattle.machine.specs.View.{nodeOf, keyOf, nodesBy, knownBy, stateOf}
 use Rattle.machine.specs.Machine.{told, AllKeyed, Slotted, Machine}
 use Rattle.machine.specs.Steps.{Blank, Rooted, begun}
+use Rattle.machine.proofs.Tracing.{traced-none, traced-more}
 use Rattle.machine.proofs.Queueing.{key-number, key-keyed}
 
 -- ---- the table of costs in blank memory
 
 module _ {r : Room} {m : Memory} (b : Blank r m) where
   pub blank-table : costs.Table (m .keys) (m .costs) (r .entries)
-  blank-table = let s = b .room .spare in table-none (m .keys) (m .costs) (r .entries) (b .free) (omega arith) (b .most) (b .keyed) (b .costed)
+  blank-table = let s = b .room .spare in table-none (m .keys) (m .costs) (r .entries) (λ i h. b .free i) (omega arith) (b .most) (b .keyed) (b .costed)
 
   pub blank-unknown : (k : ℕ) → costIn (m .keys) (m .costs) (r .entries) k ≡ unknown
-  blank-unknown = unknown-none (m .keys) (m .costs) (r .entries) (b .free)
+  blank-unknown = unknown-none (m .keys) (m .costs) (r .entries) (λ i h. b .free i)
 
   pub blank-unused : used (m .costs) (r .entries) ≡ 0
-  blank-unused = used-none (m .costs) (r .entries) (b .free)
+  blank-unused = used-none (m .costs) (r .entries) (λ i h. b .free i)
 
 -- ---- the root
 
@@ -112,6 +113,7 @@ module _ {t : Table} {r : Room} {m new : Memory} {slot : ℕ} (b : Blank r m) (w
         knows = root-knows;
         slots = root-slot;
         used = let e = used-vacant (blank-table b) (w .table) (w .spot) in let u = blank-unused b in omega arith;
+        traced = traced-more (traced-none (m .nodes) (m .costs) 0 (b .free)) (w .nodes) (0 + 1) words-room (w .table .costed);
         best = omega arith;
         progress = ap (λ (u : Table). progressKey (featuresOf u)) (sym root-table);
       }

@@ -62,6 +62,7 @@ module _ {t : Table} {r : Room} {m : Memory} {c : Counts} (k : Machine t r m c) 
         knows = k .knows;
         slots = λ i b. let s = k .slots i b in record { within = s .within; own = s .own };
         used = k .used;
+        traced = k .traced;
         best = k .best;
         progress = k .progress;
       }

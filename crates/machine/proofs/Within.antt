@@ -1,5 +1,5 @@
 -- What a machine's counts and numbers are good for in code: they lie within the lent memory, and fit its words.
-use mathlib.Core.Path.{_≡_}
+use mathlib.Core.Path.{_≡_, subst}
 use mathlib.Core.Bool.{true}
 use Prim.Native.Nat.{ℕ, _+_, _*_, _<_, _≤_}
 use native.Mathlib.Omega.{arith}
@@ -13,6 +13,7 @@ use Rattle.nodes.specs.Line.{tableTo}
 use Rattle.machine.specs.declared.Room.{Room}
 use Rattle.machine.specs.declared.Counts.{Counts}
 use Rattle.machine.specs.Memory.{Memory}
+use Rattle.machine.specs.Traced.{Holding}
 use Rattle.machine.specs.Machine.{Machine}
 
 module _ {t : Table} {r : Room} {m : Memory} {c : Counts} (k : Machine t r m c) where
@@ -37,6 +38,15 @@ module _ {t : Table} {r : Room} {m : Memory} {c : Counts} (k : Machine t r m c) 
 
     pub cost-short : costAt (m .nodes) i ≤ 200
     cost-short = let a = k .nodes .cost i born in let b = k .nodes .short i born in omega arith
+
+  -- ---- the nodes born have all the entries that are used
+
+  pub holding : Holding (m .nodes) (m .costs) (c .born)
+  holding = record { words = k .nodes .linked .fits; within = entry-there; traced = k .traced }
+
+  -- where there is no room left
+  pub holding-full : r .capacity ≤ c .born → Holding (m .nodes) (m .costs) (r .capacity)
+  holding-full full = subst (Holding (m .nodes) (m .costs)) (let w = k .within in let e : c .born ≡ r .capacity = omega arith in e) holding
 
   -- ---- a node more
 

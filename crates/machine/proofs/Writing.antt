@@ -41,6 +41,7 @@ use Rattle.machine.specs.Machine.{told, AllKeyed, Slotted, Machine}
 use Rattle.machine.specs.Steps.{Spot, counted, Wrote}
 use Rattle.machine.proofs.Within.{words-room}
 use Rattle.machine.proofs.Children.{Child, hope-small, child-few}
+use Rattle.machine.proofs.Tracing.{traced-more}
 use Rattle.machine.proofs.Queueing.{Same, nodes-same, waiting-same, keyed-same, known-same, placed-queued, placed-keyed}
 
 -- an entry for a key is its place
@@ -220,6 +221,7 @@ module _ {t : Table} (f : Fair t) {r : Room} {m new : Memory} {c : Counts} (k : 
         knows = knows-new;
         slots = slots-new;
         used = used-new;
+        traced = traced-more (k .traced) (w .nodes .puts) (cost + 1) words (w .table .costed);
         best = best-new higher;
         progress = progress-new higher;
       }

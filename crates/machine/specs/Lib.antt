@@ -1,5 +1,6 @@
 -- Read these in this order.
 pub mod Memory
+pub mod Traced
 pub mod View
 pub mod Machine
 pub mod Steps

@@ -19,6 +19,7 @@ use Rattle.search.specs.Solve.{Perhaps, none, some, costOf}
 use Rattle.machine.specs.declared.Room.{Room}
 use Rattle.machine.specs.declared.Counts.{Counts}
 use Rattle.machine.specs.Memory.{Memory, Fits}
+use Rattle.machine.specs.Traced.{Traced}
 use Rattle.machine.specs.View.{keyOf, knownBy}
 
 -- what the table of costs tells, in the definition's words
@@ -55,6 +56,7 @@ module _ (t : Table) where
     pub knows : (k : ℕ) → told (costIn (m .keys) (m .costs) (r .entries) k) ≡ costOf freecell k (knownBy t (m .nodes) (c .born))
     pub slots : (i : ℕ) → i < c .born → Slotted m (r .entries) i
     pub used : used (m .costs) (r .entries) ≤ c .born
+    pub traced : Traced (m .nodes) (m .costs) 0 (c .born)
     -- the best so far
     pub best : c .best < c .born
     pub progress : c .progress ≡ progressKey (featuresOf (tableTo t (m .nodes) (c .best)))

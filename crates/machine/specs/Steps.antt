@@ -3,7 +3,7 @@ use mathlib.Core.Path.{_≡_}
 use mathlib.Core.Bool.{cond}
 use mathlib.Core.List.{List}
 use mathlib.Core.Logic.{_⊎_}
-use Prim.Native.Nat.{ℕ, _+_, _-_, _<_, _≤_}
+use Prim.Native.Nat.{ℕ, _+_, _-_, _≤_}
 use lib.Dec.{ltb}
 use lib.ListN.{length, getD}
 use Rattle.board.specs.Table.{Table}
@@ -21,14 +21,14 @@ use Rattle.machine.specs.Memory.{Memory, Fits}
 
 -- ---- the start
 
--- there is room for a node at least, and no entry is used
+-- there is room for a node at least, and every cost byte is 0
 pub record Blank (r : Room) (m : Memory) : Type 0 where
   pub room : Fits r m
   pub some : 1 ≤ r .capacity
   pub most : r .entries ≤ 4294967296
   pub keyed : r .entries ≤ length (m .keys)
   pub costed : r .entries ≤ length (m .costs)
-  pub free : (i : ℕ) → i < r .entries → getD (m .costs) i 0 ≡ 0
+  pub free : (i : ℕ) → getD (m .costs) i 0 ≡ 0
 
 -- the root was written: its node, its entry, its key
 pub record Rooted (t : Table) (r : Room) (m new : Memory) (slot : ℕ) : Type 0 where

@@ -1,13 +1,13 @@
 -- What is refused, in order, and what an accepted search leaves.
-use mathlib.Core.Path.{_≡_, refl, sym, ap, ap₂, _∙_, subst}
-use mathlib.Core.Bool.{Bool, true, false}
+use mathlib.Core.Path.{_≡_, sym, ap, _∙_, subst}
+use mathlib.Core.Bool.{Bool}
 use mathlib.Core.List.{List}
 use Prim.Native.Nat.{ℕ, min, _*_, _/_, _<_, _≤_}
 use native.Mathlib.Nat.{min-le-left, min-le-right, le-min}
 use native.Mathlib.Omega.{arith}
 use borrow.Author.Tests.{le-leb, lt-leb}
 use lib.Dec.{leb}
-use lib.ListN.{length, replicate}
+use lib.ListN.{length}
 use Rattle.card.specs.Answer.{refused, unless}
 use Rattle.board.specs.Judged.{Verdict, fine, after}
 use Rattle.board.specs.Record.{examined, shown}
@@ -19,11 +19,11 @@ use Rattle.board.specs.declared.Examined.{Examined}
 use Rattle.board.specs.declared.Examined.the-variants as board
 use Rattle.questions.proofs.Asking.{after-no, after-yes}
 use Rattle.blank.specs.Blank.{blank}
+use Rattle.blank.proofs.Clearing.{blank-same}
 use Rattle.search.specs.Freecell.{judge}
 use Rattle.machine.specs.declared.Room.{Room}
-use Rattle.machine.specs.Memory.{Memory}
 use Rattle.solver.specs.Capacity.{capacityOf, entriesOf}
-use Rattle.solver.specs.Searched.{Outcome, outcome, accepted, searchedBy, answeredWith, searched}
+use Rattle.solver.specs.Searched.{outcome, accepted, searchedBy, answeredWith, searched}
 use Rattle.solver.specs.declared.Said.the-variants.{Refused}
 use Rattle.solver.specs.declared.Judged.{Judged}
 use Rattle.solver.specs.Inner.{Accepts, Roomy, Gives}
@@ -143,10 +143,6 @@ roomy {nodes} {heap} {keys} {costs} {capacity} {r} e some q = subst (λ (x : Roo
 
 -- ---- what is left
 
-blank-same : (a b : List ℕ) → length a ≡ length b → blank a ≡ blank b
-unfolding blank
-blank-same a b e = ap (λ (n : ℕ). replicate {A = ℕ} n 0) e
-
 module _ (nodes heap keys costs list : List ℕ) (b : Board) (budget : ℕ) (partial : Bool) where
   abbrev here : ℕ
   here = capacityOf (length nodes) (length heap) (length keys) (length costs)
@@ -157,14 +153,14 @@ module _ (nodes heap keys costs list : List ℕ) (b : Board) (budget : ℕ) (par
   outcome-refused q e =
       ap (λ (x : Judged). outcome x nodes heap keys costs list) q ∙ ap (λ (v : Verdict). searchedBy nodes heap keys costs list v b budget partial) e
 
-  -- the parts were cleared after the search, whose answer is given
-  pub outcome-given : (n h k c : List ℕ) {r : Judged} {room : Room} {after : List ℕ} {n′ h′ k′ c′ : List ℕ} {capacity : ℕ}
+  -- the parts were cleared, and the answer is given
+  pub outcome-given : (n h k : List ℕ) {r : Judged} {room : Room} {after : List ℕ} {n′ h′ k′ c′ : List ℕ} {capacity : ℕ}
       → accepted b budget here (length list) ≡ fine → capacity ≡ here → room ≡ record { capacity = capacity; entries = entriesOf capacity }
       → Gives (judge (shown b) budget (room .capacity) partial) list after r
-      → length n ≡ length nodes → n′ ≡ blank n → length h ≡ length heap → h′ ≡ blank h → length k ≡ length keys → k′ ≡ blank k → length c ≡ length costs → c′ ≡ blank c
+      → length n ≡ length nodes → n′ ≡ blank n → length h ≡ length heap → h′ ≡ blank h → length k ≡ length keys → k′ ≡ blank k → c′ ≡ blank costs
       → outcome r n′ h′ k′ c′ after ≡ searched nodes heap keys costs list b budget partial
   unfolding searched answeredWith
-  outcome-given n h k c {r} {room} {after} {n′} {h′} {k′} {c′} {capacity} ok q y g ln bn lh bh lk bk lc bc =
+  outcome-given n h k {r} {room} {after} {n′} {h′} {k′} {c′} {capacity} ok q y g ln bn lh bh lk bk zc =
       let cap : room .capacity ≡ here = ap (λ (x : Room). x .capacity) y ∙ q in
       given (subst (λ (x : ℕ). Gives (judge (shown b) budget x partial) list after r) cap g)
       ∙ sym (ap (λ (v : Verdict). searchedBy nodes heap keys costs list v b budget partial) ok)
@@ -177,9 +173,6 @@ module _ (nodes heap keys costs list : List ℕ) (b : Board) (budget : ℕ) (par
 
       zk : k′ ≡ blank keys
       zk = bk ∙ blank-same k keys lk
-
-      zc : c′ ≡ blank costs
-      zc = bc ∙ blank-same c costs lc
 
       given : Gives (judge (shown b) budget here partial) list after r
           → outcome r n′ h′ k′ c′ after ≡ answeredWith nodes heap keys costs list (judge (shown b) budget here partial)

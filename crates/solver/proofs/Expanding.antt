@@ -67,7 +67,7 @@ module _ {root : Board} {r : Room} {m₀ : Memory} {c₀ : Counts} {i : ℕ} {b 
           record { upto = omega arith; size = sized (x .size) z; growing = growing-turn (x .growing) next (y .grows) (y .grew .machine) (y .grew .same) }
 
       pub expanding-full : {new : Memory} → Bears root r m new c i move growth.Full → Expands root r m₀ new c₀ i growth.Full
-      expanding-full y = record { grew = tt; grows = growing-full (x .growing) next (y .grows) }
+      expanding-full y = record { grew = y .grew; grows = growing-full (x .growing) next (y .grows) }
 
     pub expanding-end : n ≤ k → Expands root r m₀ m c₀ i (growth.Grown c)
     expanding-end h =

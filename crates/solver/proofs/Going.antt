@@ -1,5 +1,5 @@
 -- The run, turn after turn, and how it ends.
-use mathlib.Core.Path.{_≡_, refl, sym, ap, _∙_, subst}
+use mathlib.Core.Path.{_≡_, refl, sym, subst}
 use mathlib.Core.List.{[], _∷_}
 use mathlib.Core.Logic.{⊎-elim}
 use Prim.Native.Nat.{ℕ, _+_, _-_, _<_, _≤_}
@@ -8,8 +8,6 @@ use types.Run.{OneOf}
 use denote.Enum.Declared.{tagOf}
 use Rattle.board.specs.Record.{shown}
 use Rattle.board.specs.declared.Board.{Board}
-use Rattle.search.specs.Freecell.{freecell}
-use Rattle.search.specs.Solve.{run}
 use Rattle.machine.specs.declared.Room.{Room}
 use Rattle.machine.specs.declared.Counts.{Counts}
 use Rattle.machine.specs.declared.Advance.{Advance}
@@ -17,12 +15,13 @@ use Rattle.machine.specs.declared.Advance.the-variants as advance
 use Rattle.machine.specs.declared.Ended.{Ended}
 use Rattle.machine.specs.declared.Ended.the-variants as ended
 use Rattle.machine.specs.Memory.{Memory}
-use Rattle.machine.specs.View.{stateOf, endOf}
+use Rattle.machine.specs.View.{stateOf}
 use Rattle.machine.specs.Machine.{Machine}
 use Rattle.machine.proofs.Advance.{the-type}
+use Rattle.machine.proofs.Within.{holding}
 use Rattle.machine.proofs.Visiting.{Turns}
 use Rattle.machine.proofs.Running.{Running, running-start, running-exhausted, running-limit, running-turn, running-won, running-stuck}
-use Rattle.solver.specs.Inner.{SameSize, Advances, endedBy, Closed, Goes}
+use Rattle.solver.specs.Inner.{SameSize, Advances, endedBy, Goes}
 use Rattle.solver.proofs.Expanding.{sized}
 
 -- so many turns are left of the budget
@@ -57,6 +56,7 @@ module _ {root : Board} {r : Room} {budget : ℕ} {m₀ : Memory} {c₀ : Counts
   going-limit e w =
       record {
         closed = (g .machine .best, g .machine .nodes);
+        holds = holding (g .machine);
         ends = running-limit (g .running) (g .machine) (omega arith) w;
       }
 
@@ -64,6 +64,7 @@ module _ {root : Board} {r : Room} {budget : ℕ} {m₀ : Memory} {c₀ : Counts
   going-exhausted w =
       record {
         closed = (g .machine .best, g .machine .nodes);
+        holds = holding (g .machine);
         ends = running-exhausted (g .running) (omega arith);
       }
 
@@ -91,8 +92,8 @@ module _ {root : Board} {r : Room} {budget : ℕ} {m₀ : Memory} {c₀ : Counts
 
     over : {new : Memory} (a : Advance) → Advances root r m new c a → ((d : Counts) → a ≡ advance.Again d → ⊥) → Goes root r budget m₀ new c₀ (endedBy a)
     over (advance.Again d) y n = absurd (n d refl)
-    over (advance.WonBy i d) y n = record { closed = y .went; ends = running-won (g .running) within (turns y) }
-    over (advance.Stuck p) y n = record { closed = tt; ends = running-stuck (g .running) within (turns y) }
+    over (advance.WonBy i d) y n = record { closed = (y .went .0, y .went .1 .0); holds = y .went .1 .1; ends = running-won (g .running) within (turns y) }
+    over (advance.Stuck p) y n = record { closed = tt; holds = y .went; ends = running-stuck (g .running) within (turns y) }
 
     pub going-over : {new : Memory} {a : Advance} {e : Ended} → Advances root r m new c a → OneOf (1 ∷ 2 ∷ []) (tagOf the-type a) → e ≡ endedBy a → Goes root r budget m₀ new c₀ e
     going-over {new} {a} y k q = subst (Goes root r budget m₀ new c₀) (sym q) (over a y (other-turn a k))

@@ -26,7 +26,7 @@ use Rattle.machine.specs.declared.Growth.the-variants as growth
 use Rattle.machine.specs.Memory.{Memory}
 use Rattle.machine.specs.Machine.{told}
 use Rattle.machine.specs.Steps.{Spot, counted, Wrote}
-use Rattle.machine.proofs.Within.{cost-short}
+use Rattle.machine.proofs.Within.{cost-short, holding-full}
 use Rattle.machine.proofs.Children.{Child, child-by, child-few}
 use Rattle.machine.proofs.Writing.{spot-place, node-kept, machine-wrote}
 use Rattle.machine.proofs.Bearing.{bears-deep, bears-known, bears-full, bears-born}
@@ -80,7 +80,7 @@ module _ {root : Board} {r : Room} {m : Memory} {c : Counts} {i : ℕ} {b : Boar
         spot = let there : Spot r m key slot = record { which = ch .spot slot q } in subst (λ (x : ℕ). Spot r m x slot) signs there
 
         pub bear-full : r .capacity ≤ c .born → Bears root r m m c i move growth.Full
-        bear-full h = record { grew = tt; grows = bears-full (s .machine) child short fresh h }
+        bear-full h = record { grew = holding-full (s .machine) h; grows = bears-full (s .machine) child short fresh h }
 
         module _ (free : c .born < r .capacity) where
           pub birth-of : Sound board → Birth r m c i move (cost + moves) slot key board

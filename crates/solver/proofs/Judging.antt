@@ -34,7 +34,7 @@ roomy-blank {costs = costs} {zeros = zeros} y e =
       most = y .most;
       keyed = y .keyed;
       costed = let l = ap length e ∙ blank-long costs in let c = y .costed in omega arith;
-      free = λ i h. ap (λ (l : List ℕ). getD l i 0) e ∙ blank-reads costs i;
+      free = λ i. ap (λ (l : List ℕ). getD l i 0) e ∙ blank-reads costs i;
     }
 
 module _ (root : Board) (budget capacity : ℕ) (partial : Bool) {w : Bool} (q : w ≡ wonOn (root .foundation)) where

@@ -10,6 +10,7 @@ pub mod Turning
 pub mod Taken
 pub mod Going
 pub mod Handing
+pub mod Releasing
 pub mod Judging
 pub mod Accepting
 pub mod Calls

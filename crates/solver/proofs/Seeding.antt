@@ -24,7 +24,7 @@ use Rattle.solver.proofs.Hoping.{hope-is}
 
 module _ {r : Room} {m : Memory} (b : Blank r m) where
   pub blank-empty : Empty (m .keys) (m .costs) (r .entries)
-  blank-empty = record { some = let s = b .room .spare in omega arith; most = b .most; keyed = b .keyed; costed = b .costed; zero = b .free }
+  blank-empty = record { some = let s = b .room .spare in omega arith; most = b .most; keyed = b .keyed; costed = b .costed; zero = λ i h. b .free i }
 
   pub seed-words : 3 ≤ length (m .nodes)
   seed-words = let w = b .room .words in let s = b .some in omega arith

@@ -27,6 +27,7 @@ use Rattle.machine.specs.declared.Advance.the-variants as advance
 use Rattle.machine.specs.Memory.{Memory}
 use Rattle.machine.specs.Machine.{Machine}
 use Rattle.machine.specs.Steps.{withHeap, popped}
+use Rattle.machine.proofs.Within.{holding}
 use Rattle.machine.proofs.Taking.{taken-born, machine-taken}
 use Rattle.machine.proofs.Visiting.{visits-won, visits-deep, visits-on, turns-skip, turn-is}
 use Rattle.solver.specs.Inner.{Stands, Stood, Expands, Visits, Advances}
@@ -43,7 +44,7 @@ module _ {root : Board} {r : Room} {m : Memory} {c : Counts} {i : ℕ} (s : Stoo
     won-is = sym (q ∙ ap wonOn (shown-foundation b) ∙ ap (λ (t : Table). wonOn (t .foundation)) shows)
 
     pub visit-won : w ≡ true → Visits root r m m c i (advance.WonBy i c)
-    visit-won h = record { went = (s .born, s .machine .nodes); turns = visits-won (s .machine) i (s .born) (s .current) (won-is ∙ h) }
+    visit-won h = record { went = (s .born, (s .machine .nodes, holding (s .machine))); turns = visits-won (s .machine) i (s .born) (s .current) (won-is ∙ h) }
 
     module _ (h : w ≡ false) {cost : ℕ} (k : cost ≡ costAt (m .nodes) i) where
       pub visit-deep : 200 ≤ cost → Visits root r m m c i (advance.Again c)
@@ -52,7 +53,7 @@ module _ {root : Board} {r : Room} {m : Memory} {c : Counts} {i : ℕ} (s : Stoo
       pub visit-full : {new : Memory} → cost < 200 → Expands root r m new c i growth.Full → Visits root r m new c i (advance.Stuck (c .pops))
       visit-full l x =
           record {
-            went = tt;
+            went = x .grew;
             turns = visits-on (s .machine) i (s .born) (s .current) (won-is ∙ h) (omega arith) ∙ ap (grownTurn freecell (c .pops)) (x .grows);
           }
 

@@ -33,6 +33,7 @@ use Rattle.machine.specs.declared.Advance.the-variants as advance
 use Rattle.machine.specs.declared.Ended.{Ended}
 use Rattle.machine.specs.declared.Ended.the-variants as ended
 use Rattle.machine.specs.Memory.{Memory, Fits}
+use Rattle.machine.specs.Traced.{Holding}
 use Rattle.machine.specs.View.{nodeOf, stateOf, grownOf, turnOf, endOf}
 use Rattle.machine.specs.Machine.{told, Machine}
 use Rattle.generate.specs.Asked.{written}
@@ -91,8 +92,9 @@ pub record Onward (root : Board) (r : Room) (m new : Memory) (c d : Counts) (i :
   pub same : nodeOf (shown root) (new .nodes) i ≡ nodeOf (shown root) (m .nodes) i
   pub pops : d .pops ≡ c .pops
 
+-- without room for a child as many nodes are born as there is room for
 abbrev pub Grew : Board → Room → Memory → Memory → Counts → ℕ → Growth → Type 0
-Grew root r m new c i growth.Full = Unit {0}
+Grew root r m new c i growth.Full = Holding (new .nodes) (new .costs) (r .capacity)
 Grew root r m new c i (growth.Grown d) = Onward root r m new c d i
 
 pub record Bears (root : Board) (r : Room) (m new : Memory) (c : Counts) (i : ℕ) (move : Move) (g : Growth) : Type 0 where
@@ -113,11 +115,12 @@ pub record Stood (root : Board) (r : Room) (m : Memory) (c : Counts) (i : ℕ) :
   pub born : i < c .born
   pub current : entries.costAt (m .costs) (slotAt (m .nodes) i) ≡ costAt (m .nodes) i
 
--- after a turn: the memory is in order where the search goes on, with so many pops; a node that wins is born
+-- after a turn: the memory is in order where the search goes on, with so many pops; a node that wins is born; where the search
+-- ends, the nodes have all the entries that are used
 abbrev pub Went : Board → Room → Memory → ℕ → Advance → Type 0
 Went root r new pops (advance.Again d) = Machine (shown root) r new d × (d .pops ≡ pops)
-Went root r new pops (advance.WonBy i d) = (i < d .born) × Nodes (shown root) (new .nodes) (d .born)
-Went root r new pops (advance.Stuck p) = Unit {0}
+Went root r new pops (advance.WonBy i d) = (i < d .born) × (Nodes (shown root) (new .nodes) (d .born) × Holding (new .nodes) (new .costs) (d .born))
+Went root r new pops (advance.Stuck p) = Holding (new .nodes) (new .costs) (r .capacity)
 
 pub record Visits (root : Board) (r : Room) (m new : Memory) (c : Counts) (i : ℕ) (a : Advance) : Type 0 where
   pub went : Went root r new (c .pops) a
@@ -166,8 +169,16 @@ Closed t nodes (ended.Limit d) = (d .best < d .born) × Nodes t nodes (d .born)
 Closed t nodes (ended.Exhausted d) = (d .best < d .born) × Nodes t nodes (d .born)
 Closed t nodes (ended.NoRoom p) = Unit {0}
 
+-- how many nodes are born when a search has ended: for want of room, as many as there is room for
+abbrev pub bornBy : ℕ → Ended → ℕ
+bornBy capacity (ended.Won i d) = d .born
+bornBy capacity (ended.Limit d) = d .born
+bornBy capacity (ended.Exhausted d) = d .born
+bornBy capacity (ended.NoRoom p) = capacity
+
 pub record Goes (root : Board) (r : Room) (budget : ℕ) (m new : Memory) (c : Counts) (e : Ended) : Type 0 where
   pub closed : Closed (shown root) (new .nodes) e
+  pub holds : Holding (new .nodes) (new .costs) (bornBy (r .capacity) e)
   pub ends : run freecell budget (r .capacity) (stateOf (shown root) m c) ≡ endOf (shown root) new e
 
 -- ---- the answer

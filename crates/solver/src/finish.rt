@@ -1,4 +1,5 @@
 // The answer and its list (after freecell/solver.rs, `reconstruct_moves`).
+ghost use mathlib.Core.Path.{_≡_};
 ghost use mathlib.Core.Bool.{true, not, _&&_};
 ghost use lib.Dec.{eqb};
 ghost use Prim.Native.Nat.{_<_, _≤_};
@@ -7,7 +8,9 @@ ghost use Rattle.board.specs.Record.{shown};
 ghost use Rattle.board.specs.Inner.{Sound};
 ghost use Rattle.nodes.specs.Nodes.{Nodes};
 ghost use Rattle.nodes.specs.Line.{lineTo};
-ghost use Rattle.solver.specs.Inner.{Closed, Gives, lineOr, answerBy};
+ghost use Rattle.blank.specs.Blank.{blank};
+ghost use Rattle.machine.specs.Traced.{Holding};
+ghost use Rattle.solver.specs.Inner.{Closed, Gives, lineOr, answerBy, bornBy};
 use crate::Judged;
 use crate::Said;
 use board::Board;
@@ -88,5 +91,30 @@ pub fn finish(root: Board, partial: bool, e: Ended, nodes: &[u32], list: &mut [u
             pops,
             moves: 0,
         },
+    }
+}
+
+// How many nodes were born when a search ended.
+pub fn born_by(capacity: usize, e: Ended) -> usize
+    ensures { λ r. ⌜ r ≡ bornBy capacity e ⌝ }
+{
+    match e {
+        Ended::Won { node, counts } => counts.born,
+        Ended::Limit(c) => c.born,
+        Ended::Exhausted(c) => c.born,
+        Ended::NoRoom { pops } => capacity,
+    }
+}
+
+// The entries of the first n nodes are free again, and with them the whole table: work by what was used, not by what was lent.
+pub fn release(nodes: &[u32], n: usize, costs: &mut [u8])
+    requires { ⌜ Holding (now nodes) (now costs) n ⌝ }
+    ensures { λ r. ⌜ now (costs .exit) ≡ blank (now (costs .entry)) ⌝ }
+{
+    let mut i = 0;
+    while i < n {
+        let slot = nodes::words::slot_of(nodes, i);
+        costs[slot] = 0;
+        i += 1;
     }
 }

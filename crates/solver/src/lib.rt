@@ -5,6 +5,7 @@ ghost use lib.ListN.{length};
 ghost use Rattle.board.specs.Record.{shown};
 ghost use Rattle.board.specs.Inner.{Sound};
 ghost use Rattle.solver.specs.declared.Said.the-variants.{Refused};
+ghost use Rattle.blank.specs.Blank.{blank};
 ghost use Rattle.search.specs.Freecell.{judge};
 ghost use Rattle.solver.specs.Capacity.{capacityOf, entriesOf};
 ghost use Rattle.solver.specs.Searched.{outcome, searched};
@@ -82,7 +83,7 @@ fn refused(why: Refusal) -> Judged
     }
 }
 
-// An accepted search; the scratch is left as the search leaves it.
+// An accepted search; the cost bytes are all zero after it, the other scratch is left as the search leaves it.
 fn judge_at(
     b: Board,
     budget: usize,
@@ -99,7 +100,9 @@ fn judge_at(
     requires { ⌜ Roomy room (record { nodes = now nodes; heap = now heap; keys = now keys; costs = now costs }) ⌝ }
     requires { ⌜ 1000 ≤ length (now list) ⌝ }
     ensures { λ r. ⌜ Gives (judge (shown b) budget (room .capacity) partial) (now (list .entry)) (now (list .exit)) r ⌝ }
+    ensures { λ r. ⌜ now (costs .exit) ≡ blank (now (costs .entry)) ⌝ }
 {
+    blank::clear_bytes(costs);
     if questions::won_at(&b.foundation) {
         return Judged {
             said: Said::Won,
@@ -107,10 +110,11 @@ fn judge_at(
             moves: 0,
         };
     }
-    blank::clear_bytes(costs);
     let c = run::seed(b, room, nodes, heap, keys, costs);
     let e = run::go(b, budget, room, c, nodes, heap, keys, costs);
-    finish::finish(b, partial, e, nodes, list)
+    let r = finish::finish(b, partial, e, nodes, list);
+    finish::release(nodes, finish::born_by(room.capacity, e), costs);
+    r
 }
 
 // Why a search is refused, in this order: 12 to 15, 20, 21, 22.
@@ -154,6 +158,5 @@ pub fn solve(
     blank::clear_words(nodes);
     blank::clear_longs(heap);
     blank::clear_longs(keys);
-    blank::clear_bytes(costs);
     r
 }
