@@ -1,19 +1,18 @@
 -- The answer: its number, its pops, its list.
-use mathlib.Core.Path.{_≡_, refl, sym, ap, _∙_, subst}
+use mathlib.Core.Path.{_≡_, refl, sym, subst}
 use mathlib.Core.Bool.{Bool, true, false, not, _&&_}
-use mathlib.Core.List.{List, []}
-use Prim.Native.Nat.{ℕ, _+_, _<_, _≤_}
+use mathlib.Core.List.{List}
+use Prim.Native.Nat.{ℕ, _<_, _≤_}
 use native.Mathlib.Omega.{arith}
 use borrow.Author.Tests.{eq-eqb, ne-eqb}
 use lib.Dec.{eqb}
-use lib.ListN.{length}
 use Rattle.board.specs.Table.{Table}
 use Rattle.moves.specs.declared.Move.{Move}
 use Rattle.generate.proofs.Writing.{written-none}
 use Rattle.nodes.specs.Line.{lineTo}
 use Rattle.nodes.specs.Nodes.{Nodes}
 use Rattle.search.specs.Freecell.{freecell}
-use Rattle.search.specs.Solve.{Answer, State, progressed, brings, answer}
+use Rattle.search.specs.Solve.{progressed, answer}
 use Rattle.machine.specs.declared.Counts.{Counts}
 use Rattle.machine.specs.declared.Ended.{Ended}
 use Rattle.machine.specs.declared.Ended.the-variants as ended

@@ -1,5 +1,4 @@
 -- What `examine` leaves to be shown: the refusals in order.
-use mathlib.Core.Path.{refl}
 use native.Mathlib.Omega.{arith}
 use Rattle.board.proofs.Soundness.{sound}
 use Rattle.questions.proofs.Asking.{verdict-fine}

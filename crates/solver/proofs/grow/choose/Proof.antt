@@ -1,6 +1,5 @@
 -- What `choose` leaves to be shown: what is known of the key.
 use mathlib.Core.Path.{_∙_}
-use native.Mathlib.Omega.{arith}
 use Rattle.costs.proofs.Counting.{used-room}
 use Rattle.solver.proofs.Choices.{held-within, held-is-used, drops, lowers, enters}
 use borrow.Author.Needs.{needs}

@@ -1,5 +1,4 @@
 -- What `count_birth` leaves to be shown: whether the best moves.
-use native.Mathlib.Omega.{arith}
 use Rattle.solver.proofs.Births.{counted-higher, counted-as-good}
 use borrow.Author.Needs.{needs}
 use Rattle.solver.proofs.grow.count_birth.Statement.{statement}

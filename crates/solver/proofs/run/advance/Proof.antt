@@ -1,9 +1,6 @@
 -- What `advance` leaves to be shown: the first of the waiting is a node that is born.
-use mathlib.Core.Path.{_≡_, refl, sym, ap, _∙_, subst}
-use Prim.Native.Nat.{ℕ}
-use native.Mathlib.Omega.{arith}
-use Rattle.machine.proofs.Within.{waiting-there, words-there, entry-there, entry-used}
-use Rattle.machine.proofs.Taking.{taken-born}
+use mathlib.Core.Path.{_∙_}
+use Rattle.machine.proofs.Within.{waiting-there}
 use Rattle.solver.proofs.Taken.{number-there, entry-within, entry-in-use, skips, stood, visited}
 use borrow.Author.Needs.{needs}
 use Rattle.solver.proofs.run.advance.Statement.{statement}

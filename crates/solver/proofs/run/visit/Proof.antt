@@ -1,5 +1,4 @@
 -- What `visit` leaves to be shown: a node is won, too deep or expanded.
-use native.Mathlib.Omega.{arith}
 use Rattle.solver.proofs.Turning.{stands, visit-won, visit-deep, visit-full, visit-grown, full-expands, grown-expands}
 use borrow.Author.Needs.{needs}
 use Rattle.solver.proofs.run.visit.Statement.{statement}
