@@ -22,11 +22,11 @@ use Rattle.replay.proofs.Legal.{after-append, legal-append}
 use Rattle.candidates.specs.Children.{childMoves}
 use Rattle.candidates.specs.Inner.{Playable}
 use Rattle.candidates.proofs.Bearing.{child-legal, child-fair, child-reached, child-some}
-use Rattle.nodes.specs.Step.{moveIn, parentAt, costAt}
+use Rattle.nodes.specs.Step.{moveIn, parentAt, stepAt, moveAt, costAt}
 use Rattle.nodes.specs.Line.{stepsTo, tableBy, lineBy, tableTo, lineTo}
-use Rattle.nodes.specs.Nodes.{AllMake, Nodes}
+use Rattle.nodes.specs.Nodes.{Makes, Costs, AllSteps, AllMake, AllCost, Nodes}
 use Rattle.nodes.proofs.Digits.{makes-playable}
-use Rattle.nodes.proofs.Climbing.{steps-root, steps-next, line-root}
+use Rattle.nodes.proofs.Climbing.{steps-root, steps-next, line-root, line-next}
 
 -- a move that can be played takes few cards: a step has room for their number
 pub few-cards : {t : Table} {m : Move} → Fair t → Playable t m → count m < 16
@@ -83,19 +83,38 @@ module _ {t : Table} {words : List ℕ} {n : ℕ} (k : Nodes t words n) where
   pub root-cost : costAt words 0 ≡ 0
   root-cost = k .cost 0 (k .some) ∙ ap length (line-root t words)
 
-  upto : (most i : ℕ) → i ≤ most → i < n → AllMake t (stepsTo words i)
+  -- what each node's step has after its parent's steps, all steps to a node have
+  module _ (P : List ℕ → ℕ → Type 0) (own : (i : ℕ) → 0 < i → i < n → P (stepsTo words (parentAt words i)) (stepAt words i)) where
+    upto : (most i : ℕ) → i ≤ most → i < n → AllSteps P (stepsTo words i)
+    upto zero zero h b = subst (AllSteps P) (sym (steps-root words)) tt
+    upto zero (suc i) h b = absurd (let z : ⊥ = omega arith in z)
+    upto (suc most) zero h b = subst (AllSteps P) (sym (steps-root words)) tt
+    upto (suc most) (suc i) h b =
+        let o = k .linked .older (suc i) (omega arith) b in
+        subst (AllSteps P) (sym (steps-next (k .linked) (suc i) (omega arith) b))
+        (own (suc i) (omega arith) b, upto most (parentAt words (suc i)) (omega arith) (omega arith))
+
+  own-makes : (i : ℕ) → 0 < i → i < n → Makes (tableBy t (stepsTo words (parentAt words i))) (stepAt words i)
   unfolding tableTo
-  upto zero zero h b = subst (AllMake t) (sym (steps-root words)) tt
-  upto zero (suc i) h b = absurd (let z : ⊥ = omega arith in z)
-  upto (suc most) zero h b = subst (AllMake t) (sym (steps-root words)) tt
-  upto (suc most) (suc i) h b =
-      let o = k .linked .older (suc i) (omega arith) b in
-      subst (AllMake t) (sym (steps-next (k .linked) (suc i) (omega arith) b))
-      (k .makes (suc i) (omega arith) b, upto most (parentAt words (suc i)) (omega arith) (omega arith))
+  own-makes = k .makes
+
+  -- a node's line is its parent's and its own moves, and so are the costs
+  own-costs : (i : ℕ) → 0 < i → i < n
+      → Costs (tableBy t (stepsTo words (parentAt words i))) (length (lineBy t (stepsTo words (parentAt words i)))) (stepAt words i)
+  unfolding costAt tableTo lineTo moveAt
+  own-costs i some b =
+      record {
+        sum =
+            k .cost i b ∙ ap length (line-next (k .linked) i some b t)
+            ∙ length-append (lineTo t words (parentAt words i)) (childMoves (tableTo t words (parentAt words i)) (moveAt words i));
+      }
 
   module _ (i : ℕ) (b : i < n) where
     pub node-steps : AllMake t (stepsTo words i)
-    node-steps = upto i i (omega arith) b
+    node-steps = upto (λ steps w. Makes (tableBy t steps) w) own-makes i i (omega arith) b
+
+    pub node-costs : AllCost t (stepsTo words i)
+    node-costs = upto (λ steps w. Costs (tableBy t steps) (length (lineBy t steps)) w) own-costs i i (omega arith) b
 
     pub node-few : length (stepsTo words i) ≤ 200
     unfolding lineTo

@@ -15,16 +15,20 @@ use Rattle.moves.specs.Record.{moveAsked, moveTold}
 use Rattle.moves.specs.declared.Move.{Move}
 use Rattle.moves.specs.declared.Decoded.{Decoded}
 use Rattle.moves.specs.declared.Decoded.the-variants.{Is, Impossible}
-use Rattle.play.specs.Change.{Ready}
+use Rattle.moves.specs.Play.{afterMove}
+use Rattle.play.specs.Change.{Becomes, Ready}
 use Rattle.play.proofs.Playing.{shows-fair}
-use Rattle.replay.proofs.Stepping.{fair-laid}
+use Rattle.replay.specs.Played.{afterMoves}
+use Rattle.replay.proofs.Stepping.{became, fair-laid}
+use Rattle.replay.proofs.Legal.{after-none, after-next}
+use Rattle.safe.specs.Chain.{chain}
 use Rattle.candidates.specs.Children.{childMoves, childTable}
 use Rattle.candidates.specs.Inner.{Bears}
-use Rattle.candidates.proofs.Bearing.{child-fair}
+use Rattle.candidates.proofs.Bearing.{child-fair, next-sound}
 use Rattle.candidates.proofs.Picking.{told-move, never-impossible}
-use Rattle.nodes.specs.Step.{recordIn, moveIn, parentAt, stepAt}
+use Rattle.nodes.specs.Step.{recordIn, moveIn, costIn, parentAt, stepAt}
 use Rattle.nodes.specs.Line.{stepsTo, tableBy, lineBy, tableTo}
-use Rattle.nodes.specs.Nodes.{Makes, AllMake, Linked}
+use Rattle.nodes.specs.Nodes.{Makes, Costs, AllSteps, AllMake, AllCost, Linked}
 use Rattle.nodes.specs.Path.{Climbs, Plays, Leads}
 use Rattle.nodes.proofs.Digits.{makes-playable}
 use Rattle.nodes.proofs.Climbing.{steps-root, steps-next}
@@ -95,6 +99,17 @@ module _ {words : List ℕ} {n i : ℕ} (l : Linked words n) {old now : List ℕ
 
 -- ---- one step
 
+no-moves : (ms : List Move) → length ms ≡ 0 → ms ≡ []
+no-moves [] e = refl
+no-moves (m ∷ ms) e = absurd (let z : ⊥ = omega arith in z)
+
+-- a child of one move has no chain
+child-alone : (t : Table) (m : Move) → length (childMoves t m) ≡ 1 → childTable t m ≡ afterMove t m
+unfolding childMoves childTable
+child-alone t m e =
+    let rest = chain (afterMove t m) in
+    after-next t m rest ∙ ap (afterMoves (afterMove t m)) (no-moves rest (omega arith)) ∙ after-none (afterMove t m)
+
 module _ {b : Board} (s : Sound b) {step : ℕ} (k : Makes (shown b) step) where
   pub step-ready : Ready b (moveIn step)
   step-ready = let p = makes-playable k in record { sound = s; said = p .said; allows = p .allows }
@@ -113,25 +128,36 @@ module _ {b : Board} (s : Sound b) {step : ℕ} (k : Makes (shown b) step) where
     pub step-plays : {m : Move} {many : ℕ} {r : Board} → d ≡ Is m → Bears b m many r → Sound r → Plays b step r
     step-plays q h t = record { board = h .becomes ∙ ap (λ (m : Move). boardOf (childTable (shown b) m)) (step-is q); sound = t }
 
--- ---- down
+    -- one move was spent on the step: the move alone makes it
+    pub step-alone : {m : Move} {before cost : ℕ} {next : Board} → d ≡ Is m → Costs (shown b) before step → cost ≡ costIn step → cost - before ≡ 1
+        → Becomes next (afterMove (shown b) m) → Plays b step next
+    step-alone {m} q n c one e =
+        let lone = child-alone (shown b) (moveIn step) (let s = n .sum in omega arith) in
+        record {
+          board = sym (became e) ∙ ap boardOf (ap (afterMove (shown b)) (step-is q) ∙ sym lone);
+          sound = next-sound (step-goes q) e;
+        }
 
--- the steps that can be made, from some place on
-pub make-drop : (t : Table) (j : ℕ) (steps : List ℕ) → AllMake t steps → AllMake t (drop j steps)
-make-drop t zero steps a = a
-make-drop t (suc j) [] a = tt
-make-drop t (suc j) (w ∷ steps) a = make-drop t j steps (a .1)
+-- ---- down
 
 -- the step at a place, and those before it
 step-at : (steps : List ℕ) (j : ℕ) → j < length steps → drop j steps ≡ getD steps j 0 ∷ drop (j + 1) steps
 step-at steps j h = drop-cons steps j 0 h ∙ ap (λ (k : ℕ). getD steps j 0 ∷ drop k steps) (sym (add-one j))
 
-module _ (t : Table) (steps : List ℕ) (a : AllMake t steps) (j : ℕ) (h : j < length steps) where
-  pub makes-at : Makes (tableBy t (drop (j + 1) steps)) (getD steps j 0)
-  makes-at = subst (AllMake t) (step-at steps j h) (make-drop t j steps a) .0
+-- what holds of all steps holds from some place on, and of the step there
+module _ (P : List ℕ → ℕ → Type 0) where
+  all-drop : (j : ℕ) (steps : List ℕ) → AllSteps P steps → AllSteps P (drop j steps)
+  all-drop zero steps a = a
+  all-drop (suc j) [] a = tt
+  all-drop (suc j) (w ∷ steps) a = all-drop j steps (a .1)
 
-  pub table-at : tableBy t (drop j steps) ≡ childTable (tableBy t (drop (j + 1) steps)) (moveIn (getD steps j 0))
-  unfolding tableBy
-  table-at = ap (tableBy t) (step-at steps j h)
+  all-at : (steps : List ℕ) → AllSteps P steps → (j : ℕ) → j < length steps → P (drop (j + 1) steps) (getD steps j 0)
+  all-at steps a j h = subst (AllSteps P) (step-at steps j h) (all-drop j steps a) .0
+
+table-at : (t : Table) (steps : List ℕ) (j : ℕ) → j < length steps
+    → tableBy t (drop j steps) ≡ childTable (tableBy t (drop (j + 1) steps)) (moveIn (getD steps j 0))
+unfolding tableBy
+table-at t steps j h = ap (tableBy t) (step-at steps j h)
 
 -- the steps from place `left` of a path on were made on the root's board
 pub record Descending (root : Board) (path : List ℕ) (deep : ℕ) (board : Board) (left : ℕ) : Type 0 where
@@ -175,7 +201,7 @@ module _ {root : Board} {path : List ℕ} {deep : ℕ} (w : Leads root path deep
     pub descend-makes : Makes (shown board) (getD path (left - 1) 0)
     descend-makes =
         subst (Makes (shown board)) step-here
-        (subst (λ (u : Table). Makes u (getD (take deep path) (left - 1) 0)) before (makes-at (shown root) (take deep path) (w .makes) (left - 1) inside))
+        (subst (λ (u : Table). Makes u (getD (take deep path) (left - 1) 0)) before (all-at (λ steps w. Makes (tableBy (shown root) steps) w) (take deep path) (w .makes) (left - 1) inside))
 
     pub descend-turn : {next : Board} → Plays board (getD path (left - 1) 0) next → Descending root path deep next (left - 1)
     descend-turn p =
@@ -185,7 +211,7 @@ module _ {root : Board} {path : List ℕ} {deep : ℕ} (w : Leads root path deep
           shows =
               plays-shows (d .sound) descend-makes p
               ∙ ap₂ (λ (u : Table) (w : ℕ). childTable u (moveIn w)) (sym before) (sym step-here)
-              ∙ sym (table-at (shown root) (take deep path) (w .makes) (left - 1) inside);
+              ∙ sym (table-at (shown root) (take deep path) (left - 1) inside);
         }
 
     -- the line grows by the moves of the step
@@ -203,6 +229,47 @@ module _ {root : Board} {path : List ℕ} {deep : ℕ} (w : Leads root path deep
       sym (record-of-shown board (d .sound .inColumns))
       ∙ ap boardOf (d .shows ∙ ap (λ (k : ℕ). tableBy (shown root) (drop k (take deep path))) (let q : left ≡ 0 = omega arith in q))
 
+-- the steps are made, and so many moves were spent
+pub record Replaying (root : Board) (path : List ℕ) (deep : ℕ) (board : Board) (cost left : ℕ) : Type 0 where
+  pub down : Descending root path deep board left
+  pub spent : cost ≡ length (lineBy (shown root) (drop left (take deep path)))
+
+pub replay-start : {root : Board} {path : List ℕ} {deep : ℕ} → Leads root path deep → Replaying root path deep root 0 deep
+unfolding lineBy
+replay-start {root} {path} {deep} w =
+    let l = length-take-le deep path (w .fits) in
+    record {
+      down = descend-start w;
+      spent = sym (ap (λ (steps : List ℕ). length (lineBy (shown root) steps)) (drop-of-length-le (take deep path) {i = deep} (omega arith)));
+    }
+
+module _ {root : Board} {path : List ℕ} {deep : ℕ} (w : Leads root path deep) {board : Board} {cost left : ℕ} (d : Replaying root path deep board cost left)
+    (some : 0 < left) where
+  pub replay-costs : Costs (shown board) cost (getD path (left - 1) 0)
+  replay-costs =
+      let steps = take deep path in
+      let a = all-at (λ steps w. Costs (tableBy (shown root) steps) (length (lineBy (shown root) steps)) w) steps (w .costs) (left - 1) (inside w (d .down) some) in
+      let s = a .sum in
+      let u = before w (d .down) some in
+      let v = step-here w (d .down) some in
+      let n : length (lineBy (shown root) (drop (left - 1 + 1) steps)) ≡ cost =
+      ap (λ (k : ℕ). length (lineBy (shown root) (drop k steps))) (let q : left - 1 + 1 ≡ left = omega arith in q) ∙ sym (d .spent) in
+      record { sum = cc }
+
+  pub replay-turn : {next : Board} {then : ℕ} → Plays board (getD path (left - 1) 0) next → then ≡ costIn (getD path (left - 1) 0)
+      → Replaying root path deep next then (left - 1)
+  replay-turn p q =
+      let line = descend-line w (d .down) some in
+      record {
+        down = descend-turn w (d .down) some p;
+        spent =
+            let s = replay-costs .sum in
+            let n = d .spent in
+            let a = length-append (lineBy (shown root) (drop left (take deep path))) (childMoves (shown board) (moveIn (getD path (left - 1) 0))) in
+            let e = ap length line in
+            omega arith;
+      }
+
 -- ---- the path of a node
 
 module _ {steps old new : List ℕ} {r : ℕ} (c : Climbs steps old new r) where
@@ -212,8 +279,14 @@ module _ {steps old new : List ℕ} {r : ℕ} (c : Climbs steps old new r) where
   path-fits : r ≤ length new
   path-fits = let l = ap length (c .room) ∙ length-append steps (drop (length steps) old) in let m = c .many in omega arith
 
-  pub path-leads : {root : Board} → Sound root → AllMake (shown root) steps → Leads root new r
-  path-leads {root} s a = record { sound = s; fits = path-fits; makes = subst (AllMake (shown root)) (sym path-steps) a }
+  pub path-leads : {root : Board} → Sound root → AllMake (shown root) steps → AllCost (shown root) steps → Leads root new r
+  path-leads {root} s a q =
+      record {
+        sound = s;
+        fits = path-fits;
+        makes = subst (AllMake (shown root)) (sym path-steps) a;
+        costs = subst (AllCost (shown root)) (sym path-steps) q;
+      }
 
 pub node-board : (t : Table) (words : List ℕ) (i : ℕ) {old path : List ℕ} {deep : ℕ} {b : Board} → Climbs (stepsTo words i) old path deep
     → b ≡ boardOf (tableBy t (take deep path)) → b ≡ boardOf (tableTo t words i)

@@ -5,7 +5,7 @@ ghost use lib.ListN.{length, take};
 ghost use Rattle.board.specs.Record.{shown, boardOf};
 ghost use Rattle.board.specs.Inner.{Sound};
 ghost use Rattle.nodes.specs.Line.{stepsTo, tableBy, tableTo};
-ghost use Rattle.nodes.specs.Nodes.{Makes, Linked, Nodes};
+ghost use Rattle.nodes.specs.Nodes.{Makes, Costs, Linked, Nodes};
 ghost use Rattle.nodes.specs.Path.{Climbs, Plays, Leads};
 use crate::words;
 use board::Board;
@@ -29,15 +29,21 @@ pub fn climb(nodes: &[u32], n: usize, i: usize, path: &mut [u32]) -> usize
     deep
 }
 
-// One step: the move and the chain after it.
-fn play_step(b: Board, step: u32) -> Board
+// One step: the move and the chain after it. A step that costs one move has no chain, and none is looked for.
+fn play_step(b: Board, step: u32, before: usize) -> Board
     requires { ⌜ Sound b ⌝ }
     requires { ⌜ Makes (shown b) step ⌝ }
+    requires { ⌜ Costs (shown b) before step ⌝ }
     ensures { λ r. ⌜ Plays b step r ⌝ }
 {
     let Decoded::Is(m) = words::move_in(step) else {
         return b;
     };
+    let cost = words::cost_in(step);
+    let spent = cost - before;
+    if spent == 1 {
+        return play::apply_at(b, m);
+    }
     let child = candidates::child_at(b, m);
     child.board
 }
@@ -49,10 +55,13 @@ fn play_down(root: Board, path: &[u32], deep: usize) -> Board
     ensures { λ r. ⌜ Sound r ⌝ }
 {
     let mut board = root;
+    let mut cost = 0;
     let mut left = deep;
     while 0 < left {
         left -= 1;
-        board = play_step(board, path[left]);
+        let step = path[left];
+        board = play_step(board, step, cost);
+        cost = words::cost_in(step);
     }
     board
 }

@@ -6,7 +6,7 @@ ghost use Prim.Native.Nat.{_+_, _*_, _<_, _≤_};
 ghost use lib.ListN.{length};
 ghost use Rattle.moves.specs.Move.{sayable, count};
 ghost use Rattle.moves.specs.Record.{moveAsked, moveTold};
-ghost use Rattle.nodes.specs.Step.{Small, stepOf, stepWord, recordIn, parentAt, stepAt, slotAt, costAt, Puts, Added};
+ghost use Rattle.nodes.specs.Step.{Small, stepOf, stepWord, recordIn, costIn, parentAt, stepAt, slotAt, costAt, Puts, Added};
 use moves::Decoded;
 use moves::Move;
 
@@ -46,14 +46,21 @@ pub fn slot_of(nodes: &[u32], i: usize) -> usize
     wide(nodes[at])
 }
 
+// A step's cost.
+pub fn cost_in(step: u32) -> usize
+    ensures { λ r. ⌜ r ≡ costIn step ⌝ }
+{
+    let cost = step % 256;
+    cost as usize
+}
+
 // A node's cost.
 pub fn cost_of(nodes: &[u32], i: usize) -> usize
     requires { ⌜ (i + 1) * 3 ≤ length (now nodes) ⌝ }
     ensures { λ r. ⌜ r ≡ costAt (now (nodes .entry)) i ⌝ }
 {
     let step = step_of(nodes, i);
-    let cost = step % 256;
-    cost as usize
+    cost_in(step)
 }
 
 // Six digits as one number.

@@ -1,5 +1,5 @@
 -- What `write_line` leaves to be shown: there is room for the path and for the line.
-use Rattle.nodes.proofs.Reaching.{node-steps, node-few}
+use Rattle.nodes.proofs.Reaching.{node-steps, node-costs, node-few}
 use Rattle.nodes.proofs.Walking.{path-leads}
 use Rattle.lines.proofs.Telling.{node-room, node-line}
 use borrow.Author.Needs.{needs}
@@ -16,7 +16,7 @@ slice-aggregate-write-down : tie.Need-slice-aggregate-write-down
 slice-aggregate-write-down c = search needs
 
 write-down-requires : tie.Need-write-down-requires
-write-down-requires c κs = (path-leads (c .before .before .before .climb .ensures) (c .before .before .before .before .before .before .before .pre .0) (node-steps (c .before .before .before .before .before .before .before .pre .1 .0) _ (c .before .before .before .before .before .before .before .pre .1 .1 .0)), node-room (c .before .before .before .before .before .before .before .pre .1 .0) _ (c .before .before .before .before .before .before .before .pre .1 .1 .0) (c .before .before .before .climb .ensures) (c .before .before .before .before .before .before .before .pre .1 .1 .1))
+write-down-requires c κs = (path-leads (c .before .before .before .climb .ensures) (c .before .before .before .before .before .before .before .pre .0) (node-steps (c .before .before .before .before .before .before .before .pre .1 .0) _ (c .before .before .before .before .before .before .before .pre .1 .1 .0)) (node-costs (c .before .before .before .before .before .before .before .pre .1 .0) _ (c .before .before .before .before .before .before .before .pre .1 .1 .0)), node-room (c .before .before .before .before .before .before .before .pre .1 .0) _ (c .before .before .before .before .before .before .before .pre .1 .1 .0) (c .before .before .before .climb .ensures) (c .before .before .before .before .before .before .before .pre .1 .1 .1))
 
 same-length : tie.Need-same-length
 same-length c = search needs

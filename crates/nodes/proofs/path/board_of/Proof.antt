@@ -1,5 +1,5 @@
 -- What `board_of` leaves to be shown: there is room for the path, and its steps can be made.
-use Rattle.nodes.proofs.Reaching.{node-steps, node-few}
+use Rattle.nodes.proofs.Reaching.{node-steps, node-costs, node-few}
 use Rattle.nodes.proofs.Walking.{path-leads, node-board}
 use borrow.Author.Needs.{needs}
 use Rattle.nodes.proofs.path.board_of.Statement.{statement}
@@ -15,7 +15,7 @@ slice-aggregate-play-down : tie.Need-slice-aggregate-play-down
 slice-aggregate-play-down c = search needs
 
 play-down-requires : tie.Need-play-down-requires
-play-down-requires c κs = path-leads (c .before .before .climb .ensures) (c .before .before .before .before .before .pre .0) (node-steps (c .before .before .before .before .before .pre .1 .0) _ (c .before .before .before .before .before .pre .1 .1))
+play-down-requires c κs = path-leads (c .before .before .climb .ensures) (c .before .before .before .before .before .pre .0) (node-steps (c .before .before .before .before .before .pre .1 .0) _ (c .before .before .before .before .before .pre .1 .1)) (node-costs (c .before .before .before .before .before .pre .1 .0) _ (c .before .before .before .before .before .pre .1 .1))
 
 returns : tie.Need-returns
 returns c = (node-board _ _ _ (c .before .before .before .climb .ensures) (c .play-down .ensures .0), c .play-down .ensures .1)

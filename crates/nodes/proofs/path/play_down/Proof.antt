@@ -1,39 +1,43 @@
--- What `play_down` leaves to be shown: the steps from a place of the path on were made.
+-- What `play_down` leaves to be shown: the steps from a place of the path on were made, and their moves counted.
 use native.Mathlib.Omega.{arith}
-use Rattle.nodes.proofs.Walking.{Descending, descend-start, descend-there, descend-makes, descend-turn, descend-end}
+use Rattle.nodes.proofs.Walking.{descend-there, descend-makes, descend-end, Replaying, replay-start, replay-costs, replay-turn}
 use borrow.Author.Needs.{needs}
 use Rattle.nodes.proofs.path.play_down.Statement.{statement}
 use Rattle.nodes.proofs.path.play_down.Tie as tie
 
 abbrev Inv-loop : tie.InvT-loop
-Inv-loop path deep board₀ left₀ board left = Descending board₀ path deep board left
+Inv-loop path deep board₀ cost₀ left₀ board cost left = Replaying board₀ path deep board cost left
 
 abbrev μ-loop : tie.MeasureT-loop
-μ-loop path deep board₀ left₀ board left = left
+μ-loop path deep board₀ cost₀ left₀ board cost left = left
 
 loop-holds : tie.Need-loop-holds Inv-loop μ-loop
-loop-holds c = descend-start (c .before .pre)
+loop-holds c = replay-start (c .before .pre)
 
 sub-left : tie.Need-sub-left Inv-loop μ-loop
 sub-left c = search needs
 
-mul-play-step : tie.Need-mul-play-step Inv-loop μ-loop
-mul-play-step c = let h = descend-there (c .before .before .before .pre) (c .before .loop .inv) (omega (arith, c .loop-test .taken)) in search needs
+mul-step : tie.Need-mul-step Inv-loop μ-loop
+mul-step c = let h = descend-there (c .before .before .before .pre) (c .before .loop .inv .down) (omega (arith, c .loop-test .taken)) in search needs
 
-shared-slice-read-play-step : tie.Need-shared-slice-read-play-step Inv-loop μ-loop
-shared-slice-read-play-step c = descend-there (c .before .before .before .before .pre) (c .before .before .loop .inv) (omega (arith, c .before .loop-test .taken))
+shared-slice-read-step : tie.Need-shared-slice-read-step Inv-loop μ-loop
+shared-slice-read-step c = descend-there (c .before .before .before .before .pre) (c .before .before .loop .inv .down) (omega (arith, c .before .loop-test .taken))
 
 play-step-requires : tie.Need-play-step-requires Inv-loop μ-loop
-play-step-requires c κs = (c .before .before .loop .inv .sound, descend-makes (c .before .before .before .before .pre) (c .before .before .loop .inv) (omega (arith, c .before .loop-test .taken)))
+play-step-requires c κs =
+    (c .before .before .loop .inv .down .sound, (descend-makes (c .before .before .before .before .pre) (c .before .before .loop .inv .down) (omega (arith, c .before .loop-test .taken)), replay-costs (c .before .before .before .before .pre) (c .before .before .loop .inv) (omega (arith, c .before .loop-test .taken))))
+
+cost-in-requires : tie.Need-cost-in-requires Inv-loop μ-loop
+cost-in-requires c κs = search needs
 
 loop-less : tie.Need-loop-less Inv-loop μ-loop
 loop-less c = search needs
 
 loop-again : tie.Need-loop-again Inv-loop μ-loop
-loop-again c = descend-turn (c .before .before .before .before .before .pre) (c .before .before .before .loop .inv) (omega (arith, c .before .before .loop-test .taken)) (c .play-step .ensures)
+loop-again c = replay-turn (c .before .before .before .before .before .before .pre) (c .before .before .before .before .loop .inv) (omega (arith, c .before .before .before .loop-test .taken)) (c .before .play-step .ensures) (c .cost-in .ensures)
 
 returns : tie.Need-returns Inv-loop μ-loop
-returns c = (descend-end (c .before .before .before .pre) (c .before .loop .inv) (omega (arith, c .loop-test .left)), c .before .loop .inv .sound)
+returns c = (descend-end (c .before .before .before .pre) (c .before .loop .inv .down) (omega (arith, c .loop-test .left)), c .before .loop .inv .down .sound)
 
 pub play-down-spec : {M : Type 1} → statement M
 play-down-spec =
@@ -43,9 +47,10 @@ play-down-spec =
     μ-loop
     loop-holds
     sub-left
-    mul-play-step
-    shared-slice-read-play-step
+    mul-step
+    shared-slice-read-step
     play-step-requires
+    cost-in-requires
     loop-less
     loop-again
     returns)

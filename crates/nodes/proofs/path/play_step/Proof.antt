@@ -1,5 +1,6 @@
--- What `play_step` leaves to be shown: the step's move is told, and the child is made of it.
-use Rattle.nodes.proofs.Walking.{step-never, step-goes, step-plays}
+-- What `play_step` leaves to be shown: the step's move is told, and the child is made of it, with no chain if one move was spent.
+use native.Mathlib.Omega.{arith}
+use Rattle.nodes.proofs.Walking.{step-never, step-goes, step-plays, step-alone}
 use borrow.Author.Needs.{needs}
 use Rattle.nodes.proofs.path.play_step.Statement.{statement}
 use Rattle.nodes.proofs.path.play_step.Tie as tie
@@ -14,15 +15,37 @@ enum-told : tie.Need-enum-told
 enum-told c = search needs
 
 returns : tie.Need-returns
-returns c = absurd (step-never (c .before .before .before .pre .0) (c .before .before .before .pre .1) (c .before .before .move-in .ensures) (c .enum-told .given .1))
+returns c = absurd (step-never (c .before .before .before .pre .0) (c .before .before .before .pre .1 .0) (c .before .before .move-in .ensures) (c .enum-told .given .1))
 
-child-at-requires : tie.Need-child-at-requires
-child-at-requires c κs = step-goes (c .before .before .before .before .pre .0) (c .before .before .before .before .pre .1) (c .before .before .before .move-in .ensures) (c .before .m .given .1)
+cost-in-requires : tie.Need-cost-in-requires
+cost-in-requires c κs = search needs
+
+sub-spent : tie.Need-sub-spent
+sub-spent c = search needs
+
+apply-at-requires : tie.Need-apply-at-requires
+apply-at-requires c κs = step-goes (c .before .before .before .before .before .before .pre .0) (c .before .before .before .before .before .before .pre .1 .0) (c .before .before .before .before .before .move-in .ensures) (c .before .before .before .m .given .1)
 
 returns-2 : tie.Need-returns-2
-returns-2 c = step-plays (c .before .before .before .before .before .before .pre .0) (c .before .before .before .before .before .before .pre .1) (c .before .before .before .before .before .move-in .ensures) (c .before .before .before .m .given .1) (c .before .child-at .ensures .0) (c .before .child-at .ensures .1)
+returns-2 c = step-alone (c .before .before .before .before .before .before .before .pre .0) (c .before .before .before .before .before .before .before .pre .1 .0) (c .before .before .before .before .before .before .move-in .ensures) (c .before .before .before .before .m .given .1) (c .before .before .before .before .before .before .before .pre .1 .1) (c .before .before .cost-in .ensures) (omega (arith, c .before .if1 .taken)) (c .apply-at .ensures)
+
+child-at-requires : tie.Need-child-at-requires
+child-at-requires c κs = step-goes (c .before .before .before .before .before .before .pre .0) (c .before .before .before .before .before .before .pre .1 .0) (c .before .before .before .before .before .move-in .ensures) (c .before .before .before .m .given .1)
+
+returns-3 : tie.Need-returns-3
+returns-3 c = step-plays (c .before .before .before .before .before .before .before .before .pre .0) (c .before .before .before .before .before .before .before .before .pre .1 .0) (c .before .before .before .before .before .before .before .move-in .ensures) (c .before .before .before .before .before .m .given .1) (c .before .child-at .ensures .0) (c .before .child-at .ensures .1)
 
 pub play-step-spec : {M : Type 1} → statement M
 play-step-spec =
     tie.close
-    (tie.spec move-in-requires enum-known-m enum-told returns child-at-requires returns-2)
+    (tie.spec
+    move-in-requires
+    enum-known-m
+    enum-told
+    returns
+    cost-in-requires
+    sub-spent
+    apply-at-requires
+    returns-2
+    child-at-requires
+    returns-3)
