@@ -1,0 +1,9 @@
+-- Laws for the functions.
+pub mod Wiring
+pub mod Crossing
+pub mod Handing
+pub mod Listing
+pub mod Telling
+pub mod Judging
+pub mod Returning
+pub mod Unique

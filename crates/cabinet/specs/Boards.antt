@@ -1,0 +1,52 @@
+-- The calls that hand back a board, at the start of lent room; every other byte stays.
+use mathlib.Core.Bool.{_||_}
+use mathlib.Core.List.{List}
+use Prim.Native.Nat.{ℕ}
+use lib.Dec.{eqb}
+use lib.ListN.{length}
+use Rattle.card.specs.Answer.{Answer, given, refused, unless}
+use Rattle.board.specs.Judged.{fine, after}
+use Rattle.board.specs.Record.{examined, shown, boardOf}
+use Rattle.board.specs.declared.Board.{Board}
+use Rattle.intake.specs.Image.{imageRead}
+use Rattle.intake.specs.Deal.{dealAsked}
+use Rattle.replay.specs.Step.{moveMade}
+use Rattle.replay.specs.Line.{Ending, replayed}
+use Rattle.replay.specs.Played.{afterMoves}
+use Rattle.safe.specs.Chain.{chain}
+use Rattle.score.specs.Asked.{over}
+use Rattle.cabinet.specs.Wire.{boardRoom, bytesOf}
+use Rattle.cabinet.specs.Crossing.{Left, left, told, crossed, asked, within}
+
+-- the board of an answer goes into lent room
+unfoldable pub boardLeft : Answer Board → List ℕ → Left (List ℕ)
+boardLeft a room = crossed (within boardRoom (length room) a) room (λ b. left 0 (over (bytesOf b) room))
+
+unfoldable pub readLeft : List ℕ → List ℕ → Left (List ℕ)
+readLeft image room = boardLeft (imageRead image) room
+
+unfoldable pub dealLeft : List ℕ → List ℕ → Left (List ℕ)
+dealLeft deck room = boardLeft (dealAsked deck) room
+
+unfoldable pub moveLeft : List ℕ → List ℕ → List ℕ → Left (List ℕ)
+moveLeft board bytes room = boardLeft (asked board (λ b. moveMade b bytes)) room
+
+-- ---- a line of moves: the board where it ends, and how many moves were played
+
+unfoldable pub lineLeft : Answer Ending → List ℕ → ℕ → Left (List ℕ × ℕ)
+lineLeft a room n =
+    crossed (within boardRoom (length room) a) (room, n) (λ e. left (told (e .verdict)) (over (bytesOf (e .board)) room, e .moves))
+
+-- a line that is stopped by a bad move, 30, ends on the board before it; any other refusal has no board
+abbrev pub tried : Ending → Answer Ending
+tried e = unless (eqb (told (e .verdict)) 0 || eqb (told (e .verdict)) 30) (told (e .verdict)) (given e)
+
+unfoldable pub replayLeft : List ℕ → List ℕ → List ℕ → ℕ → Left (List ℕ × ℕ)
+replayLeft board list room n = lineLeft (asked board (λ b. tried (replayed b list))) room n
+
+-- the chain of safe moves, which none stops
+unfoldable pub chained : Board → Ending
+chained b = record { verdict = fine; moves = length (chain (shown b)); board = boardOf (afterMoves (shown b) (chain (shown b))) }
+
+unfoldable pub chainLeft : List ℕ → List ℕ → ℕ → Left (List ℕ × ℕ)
+chainLeft board room n = lineLeft (asked board (λ b. after (examined b) (given (chained b)))) room n

@@ -1,0 +1,7 @@
+-- Read these in this order.
+pub mod Wire
+pub mod Crossing
+pub mod Boards
+pub mod Lists
+pub mod Values
+pub mod Judged

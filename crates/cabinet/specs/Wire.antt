@@ -1,0 +1,16 @@
+-- A board as it crosses to C: 432 bytes.
+use mathlib.Core.List.{List, _++_}
+use Prim.Native.Nat.{ℕ}
+use lib.ListN.{take, drop}
+use Rattle.board.specs.declared.Board.{Board}
+
+abbrev pub boardRoom : ℕ
+boardRoom = 432
+
+-- four cells, four foundation counts, eight column counts, 416 codes
+unfoldable pub boardIn : List ℕ → Board
+boardIn bytes =
+    record { cells = take 4 bytes; foundation = take 4 (drop 4 bytes); counts = take 8 (drop 8 bytes); tableau = take 416 (drop 16 bytes) }
+
+unfoldable pub bytesOf : Board → List ℕ
+bytesOf b = b .cells ++ (b .foundation ++ (b .counts ++ b .tableau))
