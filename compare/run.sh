@@ -1,0 +1,17 @@
+#!/bin/sh
+# Compares our library with the original Rust: compare/run.sh SOURCES [WORK..] [NAME=NUMBER..]
+# SOURCES is the original's folder solver-core-rs/src (it has common/ and freecell/); it is built as it stands there.
+# WORK is boards, judge, long, room, damage (all of these if none is named), or bench; NAME is seed, threads, or the number of
+# tasks of a work. It ends with status 1 at the first difference, and says it with the smallest board that shows it.
+# Needs rt and cargo. CORBELNIB_ARCHIVE, if set, is a folder with a libcabinet.a that is taken as it is.
+set -eu
+if [ $# -lt 1 ]; then
+    echo "usage: $0 SOURCES [WORK..] [NAME=NUMBER..]" >&2
+    exit 2
+fi
+here=$(cd "$(dirname "$0")" && pwd)
+CORBELNIB_RUST=$(cd "$1" && pwd)
+shift
+CORBELNIB_ARCHIVE=${CORBELNIB_ARCHIVE:-$(sh "$here/archive.sh")}
+export CORBELNIB_RUST CORBELNIB_ARCHIVE
+exec cargo run --release --quiet --manifest-path "$here/Cargo.toml" -- "$@"

@@ -1,0 +1,132 @@
+// Seeded boards of four kinds: deals, the middle of a game by random play, wild placements, endgames.
+use crate::codes::pile;
+use crate::draws::Draws;
+use crate::original::common::card::{Card, Suit};
+use crate::original::freecell::board::{FreeCellBoard, FreeCellMove};
+use crate::original::freecell::solver::deal;
+
+pub const KINDS: [&str; 4] = ["deals", "mid-game", "wild", "endgames"];
+
+pub fn board(draws: &mut Draws, kind: usize) -> FreeCellBoard {
+    match kind % 4 {
+        0 => deal(&shuffled(draws)).unwrap(),
+        1 => {
+            let start = deal(&shuffled(draws)).unwrap();
+            let moves = 1 + draws.below(120);
+            let weights = draws.one_of(&[[4, 6, 2, 4, 6, 1], [3, 1, 2, 2, 1, 1], [1; 6]]);
+            played(draws, start, moves, weights).0
+        }
+        2 => {
+            let most = draws.one_of(&[3, 6, 9, 13]);
+            let home = [0; 4].map(|_| draws.below(most + 1));
+            placed(draws, home)
+        }
+        _ => endgame(draws),
+    }
+}
+
+pub fn shuffled(draws: &mut Draws) -> Vec<Card> {
+    let mut deck = Card::standard_deck();
+    for i in (1..deck.len()).rev() {
+        deck.swap(i, draws.below(i + 1));
+    }
+    deck
+}
+
+// Few cards out: taken back from a won board move by move, or laid anywhere.
+fn endgame(draws: &mut Draws) -> FreeCellBoard {
+    if draws.once_in(2) {
+        let won = FreeCellBoard::new(
+            [None; 4],
+            Suit::ALL.map(|s| pile(s, 13)),
+            Default::default(),
+        );
+        let moves = draws.below(60);
+        return played(draws, won, moves, [3, 1, 2, 2, 1, 6]).0;
+    }
+    let mut home = [13; 4];
+    for _ in 0..draws.below(21) {
+        let suit = draws.below(4);
+        home[suit] = home[suit].max(1) - 1;
+    }
+    placed(draws, home)
+}
+
+// These many of each suit home, the others in cells and columns without regard to any rule.
+fn placed(draws: &mut Draws, home: [usize; 4]) -> FreeCellBoard {
+    let mut others = shuffled(draws);
+    others.retain(|card| card.value as usize > home[card.suit as usize]);
+    let mut cells = [None; 4];
+    for cell in cells.iter_mut() {
+        if draws.once_in(3) {
+            *cell = others.pop();
+        }
+    }
+    // the first columns only, now and then one column before all others
+    let columns_used = 1 + draws.below(8).max(draws.below(8));
+    let heavy = draws.once_in(4);
+    let mut columns: [Vec<Card>; 8] = Default::default();
+    for card in others {
+        let i = if heavy && draws.once_in(2) {
+            0
+        } else {
+            draws.below(columns_used)
+        };
+        columns[i].push(card);
+    }
+    FreeCellBoard::new(cells, Suit::ALL.map(|s| pile(s, home[s as usize])), columns)
+}
+
+// The legal moves of each kind, 1 to 6.
+pub fn moves_by_kind(board: &FreeCellBoard) -> [Vec<FreeCellMove>; 6] {
+    [
+        FreeCellMove::find_tableau_to_tableau(board),
+        FreeCellMove::find_tableau_to_foundation(board),
+        FreeCellMove::find_tableau_to_freecell(board),
+        FreeCellMove::find_freecell_to_tableau(board),
+        FreeCellMove::find_freecell_to_foundation(board),
+        FreeCellMove::find_foundation_to_tableau(board),
+    ]
+}
+
+// A legal move, its kind drawn by weight among the kinds that have one.
+fn drawn(draws: &mut Draws, board: &FreeCellBoard, weights: [usize; 6]) -> Option<FreeCellMove> {
+    let kinds = moves_by_kind(board);
+    let chance = |kind: usize| {
+        if kinds[kind].is_empty() {
+            0
+        } else {
+            weights[kind]
+        }
+    };
+    let sum: usize = (0..6).map(chance).sum();
+    if sum == 0 {
+        return None;
+    }
+    let mut place = draws.below(sum);
+    let mut kind = 0;
+    while place >= chance(kind) {
+        place -= chance(kind);
+        kind += 1;
+    }
+    Some(kinds[kind][draws.below(kinds[kind].len())].clone())
+}
+
+// Random play: at most so many moves; the board then, and the moves.
+pub fn played(
+    draws: &mut Draws,
+    start: FreeCellBoard,
+    moves: usize,
+    weights: [usize; 6],
+) -> (FreeCellBoard, Vec<FreeCellMove>) {
+    let mut board = start;
+    let mut made = Vec::new();
+    while made.len() < moves {
+        let Some(step) = drawn(draws, &board, weights) else {
+            break;
+        };
+        board = step.apply(&board).unwrap();
+        made.push(step);
+    }
+    (board, made)
+}

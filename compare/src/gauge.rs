@@ -1,0 +1,84 @@
+// What the original does not tell: how often its search took a waiting node, how many nodes it made, and whether it stopped
+// at the limit. Two of its weights are shadowed by types of ours; the original uses them as it uses numbers, and each use is
+// seen here. One search at a time in a thread.
+use crate::original::freecell::given;
+use std::cell::Cell;
+use std::cmp::Ordering;
+use std::ops::Mul;
+
+#[derive(Clone, Copy, Default, Debug)]
+pub struct Gauge {
+    // what the search may do
+    budget: usize,
+    capacity: usize,
+    // what it did
+    pub pops: usize,
+    pub births: usize,
+    pub limit: bool,
+    pub no_room: bool,
+}
+
+thread_local! {
+    static GAUGE: Cell<Gauge> = Cell::default();
+}
+
+pub fn start(budget: usize, capacity: usize) {
+    GAUGE.set(Gauge {
+        budget,
+        capacity,
+        ..Gauge::default()
+    });
+}
+
+pub fn reading() -> Gauge {
+    GAUGE.get()
+}
+
+// Stands for MAX_NODES. `expanded >= MAX_NODES` is asked once for each node taken, before it is counted.
+pub struct Budget;
+
+pub const MAX_NODES: Budget = Budget;
+
+impl PartialEq<Budget> for usize {
+    fn eq(&self, _: &Budget) -> bool {
+        unreachable!("the original asks only whether it has reached the limit")
+    }
+}
+
+impl PartialOrd<Budget> for usize {
+    fn partial_cmp(&self, _: &Budget) -> Option<Ordering> {
+        unreachable!("the original asks only whether it has reached the limit")
+    }
+
+    fn ge(&self, _: &Budget) -> bool {
+        let mut gauge = GAUGE.get();
+        assert_eq!(*self, gauge.pops);
+        // a search that found no room is over; the original knows of no such end and is stopped here
+        let over = gauge.no_room || *self >= gauge.budget;
+        if over {
+            gauge.limit = !gauge.no_room;
+        } else {
+            gauge.pops += 1;
+        }
+        GAUGE.set(gauge);
+        over
+    }
+}
+
+// Stands for a weight of the progress score, which the search works out once for the root and once for each child that passed
+// the depth and cost tests, right after its birth: so the uses count the nodes.
+pub struct Birth;
+
+pub const PROGRESS_LOW_BLOCKED_PENALTY: Birth = Birth;
+
+impl Mul<Birth> for i64 {
+    type Output = i64;
+
+    fn mul(self, _: Birth) -> i64 {
+        let mut gauge = GAUGE.get();
+        gauge.births += 1;
+        gauge.no_room |= gauge.births > gauge.capacity;
+        GAUGE.set(gauge);
+        self * given::PROGRESS_LOW_BLOCKED_PENALTY
+    }
+}

@@ -1,0 +1,111 @@
+// The original, not a character changed, and what it keeps to itself. Its files say `crate::common` and `super::weights`,
+// which is why these modules have its names; main.rs brings `common` to the top.
+#![allow(dead_code)]
+
+pub mod common {
+    include!(concat!(env!("OUT_DIR"), "/common.rs"));
+}
+
+pub mod freecell {
+    include!(concat!(env!("OUT_DIR"), "/freecell.rs"));
+
+    // The original's weights, but for two that are seen through gauge.rs; a name brought in by itself goes before the others.
+    pub mod weights {
+        pub use super::given::*;
+        pub use crate::gauge::{MAX_NODES, PROGRESS_LOW_BLOCKED_PENALTY};
+    }
+
+    pub mod solver {
+        include!(env!("CORBELNIB_SOLVER"));
+
+        use crate::gauge;
+
+        // In document 01's order: home, immediate, blocked, imbalance, used, empty, longest.
+        pub fn features(board: &FreeCellBoard) -> [u64; 7] {
+            let f = compute_features(board);
+            [
+                f.foundation_count as u64,
+                f.immediate_foundation_moves as u64,
+                f.blocked_low_cards as u64,
+                f.foundation_imbalance as u64,
+                f.free_cells_used as u64,
+                f.empty_tableau as u64,
+                f.longest_run as u64,
+            ]
+        }
+
+        // The heuristic and the progress score.
+        pub fn scores(board: &FreeCellBoard) -> (i64, i64) {
+            let f = compute_features(board);
+            (heuristic_cost(&f), progress_score(&f))
+        }
+
+        pub fn priority(board: &FreeCellBoard, step: &FreeCellMove) -> Option<i64> {
+            let after = step.apply(board)?;
+            Some(local_priority(step, &compute_features(board), &after))
+        }
+
+        pub fn candidates(board: &FreeCellBoard) -> Vec<FreeCellMove> {
+            let found = find_all_moves(board);
+            found.into_iter().map(|(step, _)| step).collect()
+        }
+
+        // The safe chain: its length and the board after it.
+        pub fn chain(board: &FreeCellBoard) -> (usize, FreeCellBoard) {
+            match auto_play_safe_chain(board) {
+                Some((after, moves)) => (moves.len(), after),
+                None => (0, board.clone()),
+            }
+        }
+
+        // What a search came to: document 01's number, the pops, the list, and how many nodes were made.
+        #[derive(Clone, Debug)]
+        pub struct Judged {
+            pub number: u8,
+            pub pops: usize,
+            pub births: usize,
+            pub list: Vec<FreeCellMove>,
+        }
+
+        pub fn judge(
+            board: &FreeCellBoard,
+            budget: usize,
+            capacity: usize,
+            partial: bool,
+        ) -> Judged {
+            gauge::start(budget, capacity);
+            let moves = FreeCellSolver::new().solve(board, 0.0, partial);
+            let gauge = gauge::reading();
+            let number = if gauge.no_room {
+                23
+            } else if gauge.limit {
+                if moves.is_some() {
+                    1
+                } else {
+                    3
+                }
+            } else {
+                match &moves {
+                    Some(list) if ends_won(board, list) => 0,
+                    Some(_) => 2,
+                    None => 4,
+                }
+            };
+            let list = if number == 23 { None } else { moves };
+            Judged {
+                number,
+                pops: gauge.pops,
+                births: gauge.births,
+                list: list.unwrap_or_default(),
+            }
+        }
+
+        fn ends_won(board: &FreeCellBoard, list: &[FreeCellMove]) -> bool {
+            let mut end = board.clone();
+            for step in list {
+                end = step.apply(&end).expect("the original's list can be played");
+            }
+            is_win(&end)
+        }
+    }
+}

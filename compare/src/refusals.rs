@@ -1,0 +1,217 @@
+// Document 01's refusals, written from its text alone: what may be asked, and else the number that comes first in its order.
+// What is not refused is the original's to answer.
+use crate::codes::{self, BOARD, COLUMN, EMPTY};
+use crate::original::common::card::{Card, Suit};
+use crate::original::freecell::board::{FreeCellBoard, FreeCellMove};
+use crate::original::freecell::solver;
+
+pub type Asked<T> = Result<T, u8>;
+
+pub const RECORDS: usize = 4180;
+pub const TOKEN: usize = 32;
+pub const FEATURES: usize = 7;
+pub const LIST: usize = 1000;
+pub const MOST_POPS: usize = 1_000_000;
+
+// 12 to 15 for a board of 432 bytes; another length is 12.
+pub fn board(bytes: &[u8]) -> Asked<FreeCellBoard> {
+    if bytes.len() != BOARD {
+        return Err(12);
+    }
+    let mut columns = Vec::new();
+    for (i, room) in bytes[16..].chunks(COLUMN).enumerate() {
+        let count = bytes[8 + i] as usize;
+        if count > COLUMN || room[count..].iter().any(|&unused| unused != 0) {
+            return Err(12);
+        }
+        columns.push(&room[..count]);
+    }
+    laid_out(&bytes[..4], &bytes[4..8], &columns)
+}
+
+// 10 to 15 for an image.
+pub fn image(bytes: &[u8]) -> Asked<FreeCellBoard> {
+    if bytes.len() < 2 || bytes[0] as usize * 256 + bytes[1] as usize != bytes.len() - 2 {
+        return Err(10);
+    }
+    if bytes.get(2) != Some(&1) {
+        return Err(11);
+    }
+    let body = &bytes[3..];
+    if body.len() < 8 {
+        return Err(12);
+    }
+    let mut columns = Vec::new();
+    let mut rest = &body[8..];
+    for _ in 0..8 {
+        let (&count, following) = rest.split_first().ok_or(12)?;
+        if following.len() < count as usize {
+            return Err(12);
+        }
+        let (column, others) = following.split_at(count as usize);
+        columns.push(column);
+        rest = others;
+    }
+    if !rest.is_empty() {
+        return Err(12);
+    }
+    laid_out(&body[..4], &body[4..8], &columns)
+}
+
+// 12 for a foundation count above 13, 13 for a code that is no card's, 14 for a card twice, 15 for a card missing.
+fn laid_out(cells: &[u8], home: &[u8], columns: &[&[u8]]) -> Asked<FreeCellBoard> {
+    if home.iter().any(|&count| count > 13) {
+        return Err(12);
+    }
+    let held = cells.iter().filter(|&&code| code != EMPTY);
+    let lying = columns.iter().flat_map(|column| column.iter());
+    let mut seen = all_cards(held.chain(lying))?;
+    for suit in Suit::ALL {
+        seen.extend(codes::pile(suit, home[suit as usize] as usize));
+    }
+    if some_twice(&seen) {
+        return Err(14);
+    }
+    if seen.len() < 52 {
+        return Err(15);
+    }
+    let column = |i: usize| {
+        columns[i]
+            .iter()
+            .filter_map(|&code| codes::card(code))
+            .collect()
+    };
+    Ok(FreeCellBoard::new(
+        [0, 1, 2, 3].map(|i| codes::card(cells[i])),
+        Suit::ALL.map(|suit| codes::pile(suit, home[suit as usize] as usize)),
+        [0, 1, 2, 3, 4, 5, 6, 7].map(column),
+    ))
+}
+
+fn all_cards<'a>(codes: impl Iterator<Item = &'a u8>) -> Asked<Vec<Card>> {
+    codes.map(|&code| codes::card(code).ok_or(13)).collect()
+}
+
+fn some_twice(cards: &[Card]) -> bool {
+    let mut met = [[false; 14]; 4];
+    cards.iter().any(|card| {
+        let place = &mut met[card.suit as usize][card.value as usize];
+        std::mem::replace(place, true)
+    })
+}
+
+// 16, 13, 14 for a deck.
+pub fn deal(deck: &[u8]) -> Asked<FreeCellBoard> {
+    if deck.len() != 52 {
+        return Err(16);
+    }
+    let cards = all_cards(deck.iter())?;
+    if some_twice(&cards) {
+        return Err(14);
+    }
+    Ok(solver::deal(&cards).expect("52 cards"))
+}
+
+// 21 for room that is too small.
+pub fn room<T>(given: T, room: usize, least: usize) -> Asked<T> {
+    if room < least {
+        return Err(21);
+    }
+    Ok(given)
+}
+
+// 30 for one move: the move and the board after it.
+pub fn step(board: &FreeCellBoard, record: &[u8]) -> Asked<(FreeCellMove, FreeCellBoard)> {
+    let step = possible(board, record).ok_or(30)?;
+    let after = step.apply(board).ok_or(30)?;
+    Ok((step, after))
+}
+
+// The move that a record says: none for a record that is impossible, or that names a run that does not lie there.
+fn possible(board: &FreeCellBoard, record: &[u8]) -> Option<FreeCellMove> {
+    let &[kind @ 1..=6, from, to, count, code] = record else {
+        return None;
+    };
+    let card = codes::card(code)?;
+    let (from, to, count) = (from as usize, to as usize, count as usize);
+    let places = [(8, 8), (8, 4), (8, 4), (4, 8), (4, 4), (4, 8)][kind as usize - 1];
+    let goes_home = kind == 2 || kind == 5;
+    if from >= places.0 || to >= places.1 || (goes_home && to != card.suit as usize) {
+        return None;
+    }
+    if count == 0 || (kind != 1 && count != 1) {
+        return None;
+    }
+    Some(match kind {
+        1 => {
+            let start = board.tableau[from].len().checked_sub(count)?;
+            let cards = board.tableau[from][start..].to_vec();
+            if cards[0] != card {
+                return None;
+            }
+            FreeCellMove::TableauToTableau {
+                source: from,
+                destination: to,
+                cards,
+            }
+        }
+        2 => FreeCellMove::TableauToFoundation { source: from, card },
+        3 => FreeCellMove::TableauToFreeCell {
+            source: from,
+            card,
+            cell_index: to,
+        },
+        4 => FreeCellMove::FreeCellToTableau {
+            cell_index: from,
+            destination: to,
+            card,
+        },
+        5 => FreeCellMove::FreeCellToFoundation {
+            cell_index: from,
+            card,
+        },
+        _ => FreeCellMove::FoundationToTableau {
+            suit: Suit::ALL[from],
+            destination: to,
+            card,
+        },
+    })
+}
+
+// 31 for a list; then the moves one by one: 0 or 30, how many were played, and the board then.
+pub fn list(bytes: &[u8]) -> Asked<()> {
+    if bytes.len() > LIST || bytes.len() % 5 != 0 {
+        return Err(31);
+    }
+    Ok(())
+}
+
+pub fn replay(start: &FreeCellBoard, list: &[u8]) -> (u8, usize, FreeCellBoard) {
+    let mut board = start.clone();
+    for (place, record) in list.chunks(5).enumerate() {
+        match step(&board, record) {
+            Ok((_, after)) => board = after,
+            Err(number) => return (number, place, board),
+        }
+    }
+    (0, list.len() / 5, board)
+}
+
+// The nodes that the scratch holds: docs/MEMORY.md.
+pub fn capacity(lengths: [usize; 4]) -> usize {
+    let [nodes, heap, keys, costs] = lengths;
+    let least = (nodes / 3).min(heap).min(keys / 2).min(costs / 2);
+    least.min(u32::MAX as usize)
+}
+
+// 20, 21, 22 for a search: the capacity.
+pub fn search(budget: usize, list: usize, lengths: [usize; 4]) -> Asked<usize> {
+    if budget > MOST_POPS {
+        return Err(20);
+    }
+    room((), list, LIST)?;
+    match capacity(lengths) {
+        0 => Err(22),
+        capacity => Ok(capacity),
+    }
+}
