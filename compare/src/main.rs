@@ -3,8 +3,8 @@
 //
 //     compare [WORK..] [NAME=NUMBER..]
 //
-// WORK: boards, judge, long, room, damage (all of these if none is named), or bench. NAME: seed, threads, or the number of
-// tasks of a work.
+// WORK: boards, judge, long, room, damage (all of these if none is named), or bench. NAME: seed, threads, a work for the number
+// of its tasks, or first for the task to begin with: `judge first=7 judge=8` is task 7 alone.
 mod asks;
 mod bench;
 mod boards;
@@ -19,16 +19,15 @@ mod ours;
 mod plain;
 mod refusals;
 mod shrink;
+mod tasks;
 mod work;
 
-use asks::Difference;
-use draws::Draws;
+// The original says `crate::common`.
 use original::common;
-use original::freecell::board::FreeCellBoard;
 use std::collections::BTreeMap;
-use work::{Report, Tally};
+use tasks::{done, Run};
 
-// Every work with the number of its tasks.
+// Every work with the number of its tasks; a task of judge and of long is a board with both flags at each budget.
 const WORKS: [(&str, usize); 6] = [
     ("boards", 100_000),
     ("judge", 2_000),
@@ -38,199 +37,39 @@ const WORKS: [(&str, usize); 6] = [
     ("bench", 100),
 ];
 
-struct Run {
-    seed: u64,
-    threads: usize,
-}
-
-impl Run {
-    // The draws of a task.
-    fn draws(&self, work: usize, task: usize) -> Draws {
-        Draws::new(self.seed, work as u64, task as u64)
-    }
-}
-
-fn reported(board: &FreeCellBoard, found: &Difference, asked: &str) -> Report {
-    let Difference { what, ours, theirs } = found;
-    let board = codes::drawn(board);
-    format!("{what}{asked}\n  ours   {ours}\n  theirs {theirs}\nthe smallest board found\n{board}")
-}
-
-// Everything but judge.
-fn on_board(run: &Run, task: usize, tally: &mut Tally) -> Result<(), Report> {
-    let mut draws = run.draws(0, task);
-    let board = boards::board(&mut draws, task);
-    let seed = draws.word();
-    let differs = |board: &FreeCellBoard| plain::compare(&mut Draws::new(seed, 0, 0), board).err();
-    tally.count("boards", boards::KINDS[task % 4], 1);
-    match differs(&board) {
-        None => Ok(()),
-        Some(found) => {
-            let (board, found) = shrink::smallest(board, found, differs);
-            Err(reported(&board, &found, ""))
-        }
-    }
-}
-
-// A judging that differs, at the smallest budget and then on the smallest board that shows it, and again while that helps.
-fn judging_report(
-    board: FreeCellBoard,
-    found: Difference,
-    (budget, partial): (usize, bool),
-    differs: impl Fn(&FreeCellBoard, usize) -> Option<Difference>,
-) -> Report {
-    let (mut board, mut found, mut budget) = (board, found, budget);
-    loop {
-        let least = shrink::least(budget, |budget| differs(&board, budget).is_some());
-        (board, found) = shrink::smallest(board, found, |board| differs(board, least));
-        if least == budget {
-            return reported(
-                &board,
-                &found,
-                &format!(", budget {budget}, partial {partial}"),
-            );
-        }
-        budget = least;
-    }
-}
-
-// Judge, on one board at each budget with both flags.
-fn on_judge(
-    run: &Run,
-    work: usize,
-    task: usize,
-    budgets: &[usize],
-    tally: &mut Tally,
-) -> Result<(), Report> {
-    let mut draws = run.draws(work, task);
-    let board = boards::board(&mut draws, task);
-    let seed = draws.word();
-    for &budget in budgets {
-        for partial in [false, true] {
-            let compare = |board: &FreeCellBoard, budget| {
-                judging::compare(&mut Draws::new(seed, 0, 0), board, (budget, partial))
-            };
-            match compare(&board, budget) {
-                Ok(theirs) => {
-                    let answer = format!("answer {}:", theirs.number);
-                    tally.count(format!("budget {budget:7}"), answer, 1);
-                    tally.count("all", "pops", theirs.pops);
-                    tally.count("all", "nodes", theirs.births);
-                }
-                Err(found) => {
-                    let differs = |board: &FreeCellBoard, budget| compare(board, budget).err();
-                    return Err(judging_report(board, found, (budget, partial), differs));
-                }
-            }
-        }
-    }
-    Ok(())
-}
-
-// 23 one node below the need, none at the need; boards are drawn until one needs more than its root.
-fn on_room(run: &Run, task: usize, tally: &mut Tally) -> Result<(), Report> {
-    let mut draws = run.draws(3, task);
-    loop {
-        let board = boards::board(&mut draws, task);
-        let seed = draws.word();
-        let asked = (
-            draws.one_of(&[1, 2, 10, 100, 1_000, 5_000]),
-            draws.once_in(2),
-        );
-        let compare = |board: &FreeCellBoard, budget| {
-            judging::at_the_need(&mut Draws::new(seed, 0, 0), board, (budget, asked.1))
-        };
-        match compare(&board, asked.0) {
-            Ok(None) => tally.count("boards", "passed over, the root alone is needed:", 1),
-            Ok(Some(need)) => {
-                tally.count("boards", "23 one below the need, none at it:", 1);
-                tally.count("nodes", "needed", need);
-                return Ok(());
-            }
-            Err(found) => {
-                let differs = |board: &FreeCellBoard, budget| compare(board, budget).err();
-                return Err(judging_report(board, found, asked, differs));
-            }
-        }
-    }
-}
-
-// Damaged inputs to a function, until one is refused.
-fn on_damage(run: &Run, task: usize, tally: &mut Tally) -> Result<(), Report> {
-    let mut draws = run.draws(4, task);
-    loop {
-        let function = draws.below(damage::FUNCTIONS.len());
-        let name = damage::FUNCTIONS[function];
-        match damage::compare(&mut draws, function) {
-            Ok(number @ 10..) => {
-                tally.count(name, format!("{number}:"), 1);
-                return Ok(());
-            }
-            Ok(_) => tally.count(name, "not refused, the same answer:", 1),
-            Err(found) => {
-                let Difference { what, ours, theirs } = found;
-                return Err(format!("{what}\n  ours   {ours}\n  theirs {theirs}"));
-            }
-        }
-    }
-}
-
-fn done(run: &Run, name: &str, tasks: usize) -> Result<(), Report> {
-    let threads = run.threads;
-    match name {
-        "boards" => work::run(name, tasks, threads, |task, tally| {
-            on_board(run, task, tally)
-        }),
-        "judge" => work::run(name, tasks, threads, |task, tally| {
-            on_judge(run, 1, task, &judging::BUDGETS, tally)
-        }),
-        "long" => work::run(name, tasks, threads, |task, tally| {
-            on_judge(run, 2, task, &[refusals::MOST_POPS], tally)
-        }),
-        "room" => work::run(name, tasks, threads, |task, tally| {
-            on_room(run, task, tally)
-        }),
-        "damage" => work::run(name, tasks, threads, |task, tally| {
-            on_damage(run, task, tally)
-        }),
-        _ => {
-            bench::run(run.seed, tasks);
-            Ok(())
-        }
-    }
-}
-
-fn main() {
-    let mut named = Vec::new();
-    let mut numbers: BTreeMap<String, u64> = WORKS
-        .iter()
-        .map(|w| (w.0.to_string(), w.1 as u64))
-        .collect();
+// What the command line asks for: works by name, and numbers by name.
+fn asked() -> (Vec<String>, BTreeMap<String, usize>) {
     let cores = std::thread::available_parallelism().map_or(1, |n| n.get());
-    numbers.insert("seed".to_string(), 2026);
-    numbers.insert("threads".to_string(), cores as u64);
+    let others = [("seed", 2026), ("first", 0), ("threads", cores)];
+    let all = WORKS.into_iter().chain(others);
+    let mut numbers: BTreeMap<String, usize> = all.map(|(name, n)| (name.to_string(), n)).collect();
+    let mut works = Vec::new();
     for word in std::env::args().skip(1) {
-        match word
-            .split_once('=')
-            .map(|(name, number)| (name, number.parse()))
-        {
-            Some((name, Ok(number))) if numbers.contains_key(name) => {
+        match word.split_once('=') {
+            Some((name, number)) if numbers.contains_key(name) => {
+                let number = number.parse().unwrap_or_else(|why| panic!("{word}: {why}"));
                 numbers.insert(name.to_string(), number);
             }
-            None if WORKS.iter().any(|(name, _)| *name == word) => named.push(word),
+            None if WORKS.iter().any(|(name, _)| *name == word) => works.push(word),
             _ => panic!("{word}: neither a work nor NAME=NUMBER"),
         }
     }
-    if named.is_empty() {
-        named = WORKS[..5].iter().map(|w| w.0.to_string()).collect();
+    if works.is_empty() {
+        works.extend(WORKS[..5].iter().map(|(name, _)| name.to_string()));
     }
+    (works, numbers)
+}
+
+fn main() {
+    let (works, numbers) = asked();
     let run = Run {
-        seed: numbers["seed"],
-        threads: numbers["threads"] as usize,
+        seed: numbers["seed"] as u64,
+        threads: numbers["threads"],
+        first: numbers["first"],
     };
     println!("seed {}, {} threads", run.seed, run.threads);
-    for name in &named {
-        if let Err(report) = done(&run, name, numbers[name.as_str()] as usize) {
+    for name in &works {
+        if let Err(report) = done(&run, name, numbers[name]) {
             println!("DIFFERENT: {report}");
             std::process::exit(1);
         }

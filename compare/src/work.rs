@@ -1,5 +1,6 @@
 // Tasks by number on several threads, until all are done or one finds a difference; what they count is added up.
 use std::collections::BTreeMap;
+use std::ops::Range;
 use std::sync::atomic::{AtomicUsize, Ordering};
 use std::sync::Mutex;
 use std::time::Instant;
@@ -35,46 +36,55 @@ impl Tally {
 // A difference, as it is reported.
 pub type Report = String;
 
-// The difference of the lowest task, of those found before all threads stopped.
+// What the threads share: the next task, the first difference found, and what was counted.
+struct Shared {
+    next: AtomicUsize,
+    found: Mutex<Option<(usize, Report)>>,
+    total: Mutex<Tally>,
+}
+
+// All tasks; or the difference of the lowest task, of those found before all threads stopped.
 pub fn run(
     name: &str,
-    tasks: usize,
+    tasks: Range<usize>,
     threads: usize,
     task: impl Fn(usize, &mut Tally) -> Result<(), Report> + Sync,
 ) -> Result<(), Report> {
     let start = Instant::now();
-    let next = AtomicUsize::new(0);
-    let found: Mutex<Option<(usize, Report)>> = Mutex::new(None);
-    let total = Mutex::new(Tally::default());
-    let worker = || {
-        let mut tally = Tally::default();
-        loop {
-            let number = next.fetch_add(1, Ordering::Relaxed);
-            if number >= tasks {
-                break;
-            }
-            if let Err(report) = task(number, &mut tally) {
-                next.store(tasks, Ordering::Relaxed);
-                let mut found = found.lock().unwrap();
-                if found.as_ref().is_none_or(|(earlier, _)| number < *earlier) {
-                    *found = Some((number, report));
-                }
-            }
-        }
-        total.lock().unwrap().add(tally);
+    let shared = Shared {
+        next: AtomicUsize::new(tasks.start),
+        found: Mutex::default(),
+        total: Mutex::default(),
     };
     std::thread::scope(|scope| {
         for _ in 0..threads {
-            scope.spawn(worker);
+            scope.spawn(|| work(&shared, tasks.end, &task));
         }
     });
-    if let Some((number, report)) = found.into_inner().unwrap() {
+    if let Some((number, report)) = shared.found.into_inner().unwrap() {
         return Err(format!("{name}, task {number}: {report}"));
     }
-    println!(
-        "{name}: {tasks} equal, {:.1} s",
-        start.elapsed().as_secs_f64()
-    );
-    total.into_inner().unwrap().print();
+    let spent = start.elapsed().as_secs_f64();
+    println!("{name}: {} equal, {spent:.1} s", tasks.len());
+    shared.total.into_inner().unwrap().print();
     Ok(())
+}
+
+// One thread: takes tasks until there are none, and leaves none if it finds a difference.
+fn work(shared: &Shared, end: usize, task: &impl Fn(usize, &mut Tally) -> Result<(), Report>) {
+    let mut tally = Tally::default();
+    loop {
+        let number = shared.next.fetch_add(1, Ordering::Relaxed);
+        if number >= end {
+            break;
+        }
+        if let Err(report) = task(number, &mut tally) {
+            shared.next.store(end, Ordering::Relaxed);
+            let mut found = shared.found.lock().unwrap();
+            if found.as_ref().is_none_or(|(earlier, _)| number < *earlier) {
+                *found = Some((number, report));
+            }
+        }
+    }
+    shared.total.lock().unwrap().add(tally);
 }

@@ -1,0 +1,168 @@
+// One task of each work, and what it reports of a difference.
+use crate::asks::Difference;
+use crate::draws::Draws;
+use crate::original::freecell::board::FreeCellBoard;
+use crate::work::{self, Report, Tally};
+use crate::{bench, boards, codes, damage, judging, plain, refusals, shrink};
+
+pub struct Run {
+    pub seed: u64,
+    pub threads: usize,
+    pub first: usize,
+}
+
+impl Run {
+    // The draws of a task.
+    fn draws(&self, work: usize, task: usize) -> Draws {
+        Draws::new(self.seed, work as u64, task as u64)
+    }
+}
+
+fn reported(board: &FreeCellBoard, found: &Difference, asked: &str) -> Report {
+    let Difference { what, ours, theirs } = found;
+    let board = codes::drawn(board);
+    format!("{what}{asked}\n  ours   {ours}\n  theirs {theirs}\nthe smallest board found\n{board}")
+}
+
+// Everything but judge.
+fn on_board(run: &Run, task: usize, tally: &mut Tally) -> Result<(), Report> {
+    let mut draws = run.draws(0, task);
+    let board = boards::board(&mut draws, task);
+    let seed = draws.word();
+    let differs = |board: &FreeCellBoard| plain::compare(&mut Draws::new(seed, 0, 0), board).err();
+    tally.count("boards", boards::KINDS[task % 4], 1);
+    match differs(&board) {
+        None => Ok(()),
+        Some(found) => {
+            let (board, found) = shrink::smallest(board, found, differs);
+            Err(reported(&board, &found, ""))
+        }
+    }
+}
+
+// A judging that differs, at the smallest budget and then on the smallest board that shows it, and again while that helps.
+fn judging_report(
+    board: FreeCellBoard,
+    found: Difference,
+    (budget, partial): (usize, bool),
+    differs: impl Fn(&FreeCellBoard, usize) -> Option<Difference>,
+) -> Report {
+    let (mut board, mut found, mut budget) = (board, found, budget);
+    loop {
+        let least = shrink::least(budget, |budget| differs(&board, budget).is_some());
+        found = differs(&board, least).unwrap_or(found);
+        (board, found) = shrink::smallest(board, found, |board| differs(board, least));
+        if least == budget {
+            return reported(
+                &board,
+                &found,
+                &format!(", budget {budget}, partial {partial}"),
+            );
+        }
+        budget = least;
+    }
+}
+
+// Judge, on one board at each budget with both flags.
+fn on_judge(
+    run: &Run,
+    work: usize,
+    task: usize,
+    budgets: &[usize],
+    tally: &mut Tally,
+) -> Result<(), Report> {
+    let mut draws = run.draws(work, task);
+    let board = boards::board(&mut draws, task);
+    let seed = draws.word();
+    for &budget in budgets {
+        for partial in [false, true] {
+            let compare = |board: &FreeCellBoard, budget| {
+                judging::compare(&mut Draws::new(seed, 0, 0), board, (budget, partial))
+            };
+            match compare(&board, budget) {
+                Ok(theirs) => {
+                    let answer = format!("answer {}:", theirs.number);
+                    tally.count(format!("budget {budget:7}"), answer, 1);
+                    tally.count("all", "pops", theirs.pops);
+                    tally.count("all", "nodes", theirs.births);
+                }
+                Err(found) => {
+                    let differs = |board: &FreeCellBoard, budget| compare(board, budget).err();
+                    return Err(judging_report(board, found, (budget, partial), differs));
+                }
+            }
+        }
+    }
+    Ok(())
+}
+
+// 23 one node below the need, none at the need; boards are drawn until one needs more than its root.
+fn on_room(run: &Run, task: usize, tally: &mut Tally) -> Result<(), Report> {
+    let mut draws = run.draws(3, task);
+    loop {
+        let board = boards::board(&mut draws, task);
+        let seed = draws.word();
+        let asked = (
+            draws.one_of(&[1, 2, 10, 100, 1_000, 5_000]),
+            draws.once_in(2),
+        );
+        let compare = |board: &FreeCellBoard, budget| {
+            judging::at_the_need(&mut Draws::new(seed, 0, 0), board, (budget, asked.1))
+        };
+        match compare(&board, asked.0) {
+            Ok(None) => tally.count("boards", "passed over, the root alone is needed:", 1),
+            Ok(Some(need)) => {
+                tally.count("boards", "23 one below the need, none at it:", 1);
+                tally.count("nodes", "needed", need);
+                return Ok(());
+            }
+            Err(found) => {
+                let differs = |board: &FreeCellBoard, budget| compare(board, budget).err();
+                return Err(judging_report(board, found, asked, differs));
+            }
+        }
+    }
+}
+
+// Damaged inputs to a function, until one is refused.
+fn on_damage(run: &Run, task: usize, tally: &mut Tally) -> Result<(), Report> {
+    let mut draws = run.draws(4, task);
+    loop {
+        let function = draws.below(damage::FUNCTIONS.len());
+        let name = damage::FUNCTIONS[function];
+        match damage::compare(&mut draws, function) {
+            Ok(number @ 10..) => {
+                tally.count(name, format!("{number}:"), 1);
+                return Ok(());
+            }
+            Ok(_) => tally.count(name, "not refused, the same answer:", 1),
+            Err(found) => {
+                let Difference { what, ours, theirs } = found;
+                return Err(format!("{what}\n  ours   {ours}\n  theirs {theirs}"));
+            }
+        }
+    }
+}
+
+// A work by its name.
+pub fn done(run: &Run, name: &str, tasks: usize) -> Result<(), Report> {
+    let threads = run.threads;
+    let all = run.first..run.first.max(tasks);
+    match name {
+        "boards" => work::run(name, all, threads, |task, tally| on_board(run, task, tally)),
+        "judge" => work::run(name, all, threads, |task, tally| {
+            on_judge(run, 1, task, &judging::BUDGETS, tally)
+        }),
+        "long" => work::run(name, all, threads, |task, tally| {
+            on_judge(run, 2, task, &[refusals::MOST_POPS], tally)
+        }),
+        "room" => work::run(name, all, threads, |task, tally| on_room(run, task, tally)),
+        "damage" => work::run(name, all, threads, |task, tally| {
+            on_damage(run, task, tally)
+        }),
+        _ => {
+            bench::run(run.seed, tasks);
+            Ok(())
+        }
+    }
+}
