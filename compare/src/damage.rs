@@ -201,8 +201,9 @@ fn damage_image(draws: &mut Draws, bytes: &mut Vec<u8>) {
         1 => body.truncate(place),
         2 => body.insert(place, draws.byte()),
         3 => drop(body.remove(place)),
+        // with 65,536 bytes more the count's two bytes are the same
         4 => {
-            let more = draws.below(300);
+            let more = draws.one_of(&[1, 2, 40, 300, 1000, 65_536]);
             body.extend(rubbish(draws, more));
         }
         5 => body[place] = draws.one_of(&[0, 1, 13, 14, 0x10, 0xd3, EMPTY]),
