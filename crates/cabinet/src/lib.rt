@@ -251,7 +251,7 @@ pub extern "C" fn corbelnib_judge(
     let said = judged.said;
     let p = judged.pops;
     let m = judged.moves;
-    let number = tell::said(said);
+    let number = solver::number(said);
     if tell::is_answer(number) {
         *pops = p;
         *moves = m;

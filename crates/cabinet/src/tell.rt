@@ -6,7 +6,6 @@ ghost use Rattle.board.specs.Refusal.{examinedTold};
 ghost use Rattle.questions.specs.Told.{countTold};
 ghost use Rattle.score.specs.Asked.{scoreTold};
 ghost use Rattle.signature.specs.Signed.{signatureTold};
-ghost use Rattle.solver.specs.Searched.{saidNumber};
 ghost use Rattle.cabinet.specs.Crossing.{left, told};
 ghost use Rattle.cabinet.specs.Judged.{isAnswer};
 ghost use Rattle.cabinet.specs.Lists.{wayAsked, wayTold};
@@ -17,7 +16,6 @@ use generate::Way;
 use questions::CountAnswer;
 use score::ScoreAnswer;
 use signature::SignatureAnswer;
-use solver::Said;
 
 // 0, or the number of a refusal.
 pub fn verdict(e: Examined) -> u8
@@ -65,21 +63,6 @@ pub fn signature(answer: SignatureAnswer, to: &mut u64) -> u8
             0
         }
         SignatureAnswer::Refused(why) => board::number(why),
-    }
-}
-
-// The number of a search's answer.
-pub fn said(said: Said) -> u8
-    ensures { λ r. ⌜ r ≡ saidNumber said ⌝ }
-{
-    match said {
-        Said::Won => 0,
-        Said::BestAtLimit => 1,
-        Said::BestExhausted => 2,
-        Said::Limit => 3,
-        Said::Exhausted => 4,
-        Said::NoRoom => 23,
-        Said::Refused(why) => board::number(why),
     }
 }
 

@@ -7,30 +7,13 @@ ghost use Rattle.board.specs.Record.{shown};
 ghost use Rattle.intake.proofs.Accepted.{Fine};
 ghost use Rattle.score.specs.Asked.{Puts};
 ghost use Rattle.search.specs.Freecell.{judge};
-ghost use Rattle.solver.specs.Searched.{saidNumber};
 ghost use Rattle.onetext.specs.Text.{answerText, handText};
 ghost use Rattle.onetext.specs.Told.{Tells};
 ghost use Rattle.onetext.specs.Inner.{Scratch};
 use board::Board;
 use board::Examined;
-use solver::Said;
 
 mod write;
-
-// Document 01's number of an answer.
-fn number(said: Said) -> u8
-    ensures { λ r. ⌜ r ≡ saidNumber said ⌝ }
-{
-    match said {
-        Said::Won => 0,
-        Said::BestAtLimit => 1,
-        Said::BestExhausted => 2,
-        Said::Limit => 3,
-        Said::Exhausted => 4,
-        Said::NoRoom => 23,
-        Said::Refused(why) => board::number(why),
-    }
-}
 
 // The answer of a search with budget 100 and no partial, and its moves, at a place.
 fn put_answer(
@@ -52,7 +35,7 @@ fn put_answer(
     let pops = j.pops as u8;
     let moves = j.moves as u8;
     let said = j.said;
-    let first = [number(said), pops, moves];
+    let first = [solver::number(said), pops, moves];
     let after = write::put_line(out, at, &first);
     write::put_records(out, after, list, j.moves)
 }

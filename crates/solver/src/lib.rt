@@ -8,7 +8,7 @@ ghost use Rattle.solver.specs.declared.Said.the-variants.{Refused};
 ghost use Rattle.blank.specs.Blank.{blank};
 ghost use Rattle.search.specs.Freecell.{judge};
 ghost use Rattle.solver.specs.Capacity.{capacityOf, entriesOf};
-ghost use Rattle.solver.specs.Searched.{outcome, searched};
+ghost use Rattle.solver.specs.Searched.{saidNumber, outcome, searched};
 ghost use Rattle.solver.specs.Inner.{Accepts, Roomy, Gives};
 use board::Board;
 use board::Examined;
@@ -42,6 +42,21 @@ pub struct Judged {
 pub enum Choice {
     Dropped,
     Slot(usize),
+}
+
+// Document 01's number of an answer.
+pub fn number(said: Said) -> u8
+    ensures { λ r. ⌜ r ≡ saidNumber said ⌝ }
+{
+    match said {
+        Said::Won => 0,
+        Said::BestAtLimit => 1,
+        Said::BestExhausted => 2,
+        Said::Limit => 3,
+        Said::Exhausted => 4,
+        Said::NoRoom => 23,
+        Said::Refused(why) => board::number(why),
+    }
 }
 
 fn lesser(a: usize, b: usize) -> usize

@@ -1,6 +1,5 @@
 // What a trial of the search writes: the answer, then what it left in the memory that was lent.
 ghost use Prim.Native.Nat.{_≤_};
-use solver::Said;
 
 // What the list buffer holds before a search.
 pub(crate) const MARK: u8 = 7;
@@ -21,19 +20,6 @@ pub(crate) fn number(n: usize) {
 
 pub(crate) fn line_end() {
     io::write_all(1, b"\n");
-}
-
-// Document 01's number of an answer.
-pub(crate) fn number_of(said: Said) -> usize {
-    match said {
-        Said::Won => 0,
-        Said::BestAtLimit => 1,
-        Said::BestExhausted => 2,
-        Said::Limit => 3,
-        Said::Exhausted => 4,
-        Said::NoRoom => 23,
-        Said::Refused(why) => card::wide(board::number(why)),
-    }
 }
 
 fn one_if(so: bool) -> usize
