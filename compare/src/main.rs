@@ -3,10 +3,10 @@
 //
 //     compare [WORK..] [NAME=NUMBER..]
 //
-// WORK: boards, judge, long, room, damage (all of these if none is named), or bench. NAME: seed, threads, a work for the number
+// WORK: boards, judge, long, room, damage (all of these if none is named), or sample, which writes the
+// gate's sample of the original's answers. NAME: seed, threads, a work for the number
 // of its tasks, or first for the task to begin with: `judge first=7 judge=8` is task 7 alone.
 mod asks;
-mod bench;
 mod boards;
 mod codes;
 mod damage;
@@ -18,6 +18,7 @@ mod original;
 mod ours;
 mod plain;
 mod refusals;
+mod sample;
 mod shrink;
 mod tasks;
 mod work;
@@ -34,7 +35,7 @@ const WORKS: [(&str, usize); 6] = [
     ("long", 20),
     ("room", 500),
     ("damage", 100_000),
-    ("bench", 100),
+    ("sample", 40),
 ];
 
 // What the command line asks for: works by name, and numbers by name.

@@ -3,7 +3,7 @@ use crate::asks::Difference;
 use crate::draws::Draws;
 use crate::original::freecell::board::FreeCellBoard;
 use crate::work::{self, Report, Tally};
-use crate::{bench, boards, codes, damage, judging, plain, refusals, shrink};
+use crate::{boards, codes, damage, judging, plain, refusals, sample, shrink};
 
 pub struct Run {
     pub seed: u64,
@@ -13,7 +13,7 @@ pub struct Run {
 
 impl Run {
     // The draws of a task.
-    fn draws(&self, work: usize, task: usize) -> Draws {
+    pub fn draws(&self, work: usize, task: usize) -> Draws {
         Draws::new(self.seed, work as u64, task as u64)
     }
 }
@@ -160,9 +160,6 @@ pub fn done(run: &Run, name: &str, tasks: usize) -> Result<(), Report> {
         "damage" => work::run(name, all, threads, |task, tally| {
             on_damage(run, task, tally)
         }),
-        _ => {
-            bench::run(run.seed, tasks);
-            Ok(())
-        }
+        _ => sample::write(run, tasks).map_err(|why| why.to_string()),
     }
 }

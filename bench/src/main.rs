@@ -1,0 +1,195 @@
+// How fast the two judge, and what memory they take: the same deals and budgets, one after the other in one thread.
+// bench/run.sh builds both and calls this.
+//
+//     bench [NAME=NUMBER..]      first, last, budget, long
+#[path = "../../compare/src/codes.rs"]
+#[allow(dead_code)]
+mod codes;
+#[path = "../../compare/src/draws.rs"]
+#[allow(dead_code)]
+mod draws;
+#[path = "../../compare/src/gauge.rs"]
+mod gauge;
+mod heap;
+#[path = "../../compare/src/lent.rs"]
+#[allow(dead_code)]
+mod lent;
+#[path = "../../compare/src/original.rs"]
+mod original;
+#[path = "../../compare/src/ours.rs"]
+#[allow(dead_code)]
+mod ours;
+
+use draws::Draws;
+use lent::{Room, Scratch};
+use original::common;
+use original::common::card::Card;
+use original::freecell::board::FreeCellBoard;
+use original::freecell::solver;
+use std::time::Instant;
+
+const MOST_POPS: usize = 1_000_000;
+const LIST: usize = 1_000;
+
+// The deals that players know by number, 1 to 32,000; the library has none of this yet.
+fn numbered(number: usize) -> Vec<Card> {
+    let mut pack: Vec<u8> = (0..52u8).map(|i| (i / 4 + 1) * 16 + i % 4).collect();
+    let mut state = number as u64;
+    let mut deck = Vec::new();
+    while !pack.is_empty() {
+        state = (214_013 * state + 2_531_011) % (1 << 31);
+        let place = (state >> 16) as usize % pack.len();
+        deck.extend(codes::card(pack.swap_remove(place)));
+    }
+    deck
+}
+
+// One board judged by both.
+struct Both {
+    number: u8,
+    pops: usize,
+    nodes: usize,
+    ours: f64,
+    theirs: f64,
+    our_bytes: usize,
+    their_bytes: usize,
+}
+
+impl Both {
+    fn ratio(&self) -> f64 {
+        self.theirs / self.ours
+    }
+}
+
+fn bytes_for(nodes: usize) -> usize {
+    let words = 3 * nodes * size_of::<u32>();
+    let longs = (nodes + 2 * nodes) * size_of::<u64>();
+    words + longs + 2 * nodes
+}
+
+// Our judge's answer, pops and seconds, in scratch for so many nodes that is full of rubbish.
+fn our_judge(board: &FreeCellBoard, budget: usize, nodes: usize) -> (u8, usize, f64) {
+    let mut draws = Draws::new(0, 0, 0);
+    let mut scratch = Scratch::new(&mut draws, [3 * nodes, nodes, 2 * nodes, 2 * nodes]);
+    let mut list = Room::new(&mut draws, LIST);
+    let (mut pops, mut moves) = (0, 0);
+    let bytes = codes::bytes(board);
+    let start = Instant::now();
+    let number = ours::judge(
+        &bytes,
+        budget,
+        0,
+        &mut scratch,
+        list.lent(),
+        &mut pops,
+        &mut moves,
+    );
+    (number, pops, start.elapsed().as_secs_f64())
+}
+
+fn both(board: &FreeCellBoard, budget: usize) -> Both {
+    let ((judged, theirs), their_bytes) = heap::most_in(|| {
+        let start = Instant::now();
+        let judged = solver::judge(board, budget, usize::MAX, false);
+        (judged, start.elapsed().as_secs_f64())
+    });
+    let nodes = judged.births.max(1);
+    let (number, pops, ours) = our_judge(board, budget, nodes);
+    assert_eq!((number, pops), (judged.number, judged.pops));
+    Both {
+        number,
+        pops,
+        nodes,
+        ours,
+        theirs,
+        our_bytes: bytes_for(nodes),
+        their_bytes,
+    }
+}
+
+fn rate(pops: usize, seconds: f64) -> f64 {
+    pops as f64 / seconds
+}
+
+fn print_line(deal: usize, b: &Both) {
+    let (ours, theirs) = (rate(b.pops, b.ours), rate(b.pops, b.theirs));
+    println!(
+        "{deal:5} {:6} {:7} {:8} {ours:10.0} {theirs:10.0} {:6.2} {:9.1} {:9.1}",
+        b.number,
+        b.pops,
+        b.nodes,
+        b.ratio(),
+        b.our_bytes as f64 / 1e6,
+        b.their_bytes as f64 / 1e6,
+    );
+}
+
+const HEADING: &str =
+    " deal answer    pops    nodes ours pop/s orig pop/s  ratio   ours MB   orig MB";
+
+fn summary(all: &[Both]) {
+    let mut ratios: Vec<f64> = all.iter().map(Both::ratio).collect();
+    ratios.sort_by(f64::total_cmp);
+    let (least, most) = (ratios[0], ratios[ratios.len() - 1]);
+    println!("ratio: median {:.2}, least {least:.2}, most {most:.2}", ratios[ratios.len() / 2]);
+    let sum = |part: fn(&Both) -> f64| all.iter().map(part).sum::<f64>();
+    let (ours, theirs) = (sum(|b| b.ours), sum(|b| b.theirs));
+    let (pops, nodes) = (sum(|b| b.pops as f64), sum(|b| b.nodes as f64));
+    println!(
+        "together: ours {:.0} pops/s, the original {:.0} pops/s, ratio {:.2}",
+        pops / ours,
+        pops / theirs,
+        theirs / ours
+    );
+    println!(
+        "bytes a node: ours {:.0}, the original {:.0}",
+        sum(|b| b.our_bytes as f64) / nodes,
+        sum(|b| b.their_bytes as f64) / nodes
+    );
+}
+
+// What clearing alone takes: a won board, in 512 MB.
+fn clearing() {
+    let won = FreeCellBoard::new(
+        [None; 4],
+        common::card::Suit::ALL.map(|suit| codes::pile(suit, 13)),
+        Default::default(),
+    );
+    let nodes = (512 << 20) / bytes_for(1);
+    let (_, _, seconds) = our_judge(&won, 0, nodes);
+    println!("clearing alone, scratch for {nodes} nodes (512 MB): {seconds:.3} s");
+}
+
+fn main() {
+    let mut numbers = [("first", 1), ("last", 100), ("budget", 100_000), ("long", 3)];
+    for word in std::env::args().skip(1) {
+        let given = word.split_once('=').and_then(|(name, n)| Some((name, n.parse().ok()?)));
+        let known = given.and_then(|(name, n)| Some((numbers.iter_mut().find(|k| k.0 == name)?, n)));
+        let Some((known, n)) = known else {
+            panic!("{word}: not NAME=NUMBER");
+        };
+        known.1 = n;
+    }
+    let [first, last, budget, long] = numbers.map(|known| known.1);
+    println!("deals {first} to {last}, budget {budget}, no partial. Our scratch has room for just the nodes needed and is full of");
+    println!("rubbish before each call: nothing is cleared first, the clearing that the judge does is part of its time.");
+    println!("{HEADING}");
+    let mut all = Vec::new();
+    let mut again = Vec::new();
+    for deal in first..=last {
+        let board = solver::deal(&numbered(deal)).unwrap();
+        let came = both(&board, budget);
+        print_line(deal, &came);
+        if came.number == 3 && again.len() < long {
+            again.push((deal, board));
+        }
+        all.push(came);
+    }
+    summary(&all);
+    println!("at {MOST_POPS} pops");
+    println!("{HEADING}");
+    for (deal, board) in again {
+        print_line(deal, &both(&board, MOST_POPS));
+    }
+    clearing();
+}

@@ -1,0 +1,155 @@
+/* Corbelnib: a FreeCell judge for controller programs.
+ *
+ * Link with libcabinet.a (README says how it is built). No function allocates, blocks, keeps anything between calls or traps;
+ * each ends. Two threads may call at once if they lend different memory.
+ *
+ * What is lent: a pointer and then the number of elements behind it. A pointer is never NULL, points to as many elements as
+ * are told (a length of 0 is taken) and is aligned for its type; no two lent parts of one call overlap, unless both are only
+ * read (`const`). This is all that C cannot have checked; every other value of every argument is examined.
+ *
+ * A board is CORBELNIB_BOARD (432) bytes: four cells (a card's code, or 255 for none); four foundation counts, clubs,
+ * diamonds, hearts, spades; eight column counts; eight columns of room for 52 codes each, the deepest card first, unused
+ * room 0. A card's code is value * 16 + suit: ace of clubs 16, king of spades 211. A board is well formed if each of the 52
+ * cards is on it exactly once, those on a foundation counted from the ace upward.
+ *
+ * A move is five bytes: kind, from, to, count, code of the deepest moved card. Kinds: 1 column to column, 2 column to
+ * foundation, 3 column to cell, 4 cell to column, 5 cell to foundation, 6 foundation to column. Columns 0 to 7, cells 0 to 3,
+ * suits 0 to 3; count is 1 except in kind 1; for kinds 2 and 5 `to` is the card's suit.
+ *
+ * What comes back is a number: 0 for done (corbelnib_judge: an answer, see there), else why the call was refused:
+ *
+ *   10  image under 2 bytes, or its count differs from the bytes that follow
+ *   11  no version byte, or not 1
+ *   12  image body too short or too long, a foundation count above 13; a board not of 432 bytes, with a column count above
+ *       52 or with unused room that is not 0
+ *   13  a code that is no card's
+ *   14  a card twice
+ *   15  a card missing
+ *   16  a deck that is not 52 cards
+ *   20  a budget above 1,000,000
+ *   21  too little room lent
+ *   22  scratch that holds no node
+ *   30  a move that is not allowed or no record of a move, or a kind of move that is none
+ *   31  a list over 1,000 bytes or not a multiple of 5
+ *
+ * Where several hold, the number is the first in the order that the function's paragraph gives. A refusal changes nothing
+ * that was lent; the one exception is said at corbelnib_replay. */
+#ifndef CORBELNIB_H
+#define CORBELNIB_H
+
+#include <stddef.h>
+#include <stdint.h>
+
+#ifdef __cplusplus
+extern "C" {
+#endif
+
+/* Sizes in bytes: a board, a move, the least list buffer of a search (200 moves), the least room for moves that are listed
+ * (836 of them), the least room for a token; and how many features there are. */
+#define CORBELNIB_BOARD 432
+#define CORBELNIB_MOVE 5
+#define CORBELNIB_LIST 1000
+#define CORBELNIB_RECORDS 4180
+#define CORBELNIB_TOKEN 32
+#define CORBELNIB_FEATURES 7
+
+/* The largest budget of a search. */
+#define CORBELNIB_BUDGET 1000000
+
+/* Elements of each part of the scratch that n nodes need. */
+#define CORBELNIB_NODES(n) (3 * (size_t)(n))
+#define CORBELNIB_HEAP(n) ((size_t)(n))
+#define CORBELNIB_KEYS(n) (2 * (size_t)(n))
+#define CORBELNIB_COSTS(n) (2 * (size_t)(n))
+
+/* Reads an image (a two-byte big-endian count of the bytes that follow; version byte 1; four cells; four foundation counts;
+ * eight columns, each a count and then as many codes, the deepest first) and writes its board, 432 bytes, to the start of
+ * `board`; bytes beyond stay. Refusals: 10 to 15 of the image, then 21 if `board` has fewer than 432 bytes. */
+uint8_t corbelnib_read(const uint8_t *image, size_t image_length, uint8_t *board, size_t board_length);
+
+/* Deals a deck of 52 codes (place i goes to column i mod 8) and writes the board, 432 bytes, to the start of `board`; bytes
+ * beyond stay. Refusals: 16, 13, 14, then 21 if `board` has fewer than 432 bytes. */
+uint8_t corbelnib_deal(const uint8_t *deck, size_t deck_length, uint8_t *board, size_t board_length);
+
+/* Says whether a board is well formed: 0, or the first of 12 to 15. Writes nothing. Every function below that takes a board
+ * does this itself and refuses with the same number. */
+uint8_t corbelnib_examine(const uint8_t *board, size_t board_length);
+
+/* Plays one move, five bytes in `record`, and writes the board after it, 432 bytes, to the start of `after`; bytes beyond
+ * stay. Refusals: 12 to 15, 30 (also for a record that is not of five bytes), then 21 if `after` has fewer than 432 bytes. */
+uint8_t corbelnib_move(const uint8_t *board, size_t board_length, const uint8_t *record, size_t record_length,
+                       uint8_t *after, size_t after_length);
+
+/* Plays a list of moves, five bytes each, writes the board at its end to the start of `after` and tells in `*played` how many
+ * moves were played: all. Refusals: 12 to 15, 31, 21 if `after` has fewer than 432 bytes, then 30 for a move that is not
+ * allowed. With 30, and only then, something is written beside a refusal: `*played` is the place of the bad move, counted
+ * from 0, and `after` the board before it. */
+uint8_t corbelnib_replay(const uint8_t *board, size_t board_length, const uint8_t *list, size_t list_length,
+                         uint8_t *after, size_t after_length, size_t *played);
+
+/* Lists the allowed moves of one kind, 1 to 6: their records to the start of `records`, in the judge's order, their number
+ * to `*count`; bytes beyond stay. Refusals: 12 to 15, 30 for a kind that is none, 21 if `records` has fewer than 4,180 bytes
+ * (no board has more than 836 moves). */
+uint8_t corbelnib_moves(const uint8_t *board, size_t board_length, uint8_t kind, uint8_t *records, size_t records_length,
+                        size_t *count);
+
+/* Lists the moves that a search tries on a board, in the order in which it tries them, as corbelnib_moves does. Refusals: 12
+ * to 15, then 21 if `records` has fewer than 4,180 bytes. */
+uint8_t corbelnib_candidates(const uint8_t *board, size_t board_length, uint8_t *records, size_t records_length,
+                             size_t *count);
+
+/* Tells in `*priority` by how much a search prefers a move. Refusals: 12 to 15, then 30. */
+uint8_t corbelnib_priority(const uint8_t *board, size_t board_length, const uint8_t *record, size_t record_length,
+                           int64_t *priority);
+
+/* Plays the chain of safe moves home, writes the board after it to the start of `after` (the same board if there is no safe
+ * move) and tells in `*moves` how many there were; bytes beyond stay. Refusals: 12 to 15, then 21 if `after` has fewer than
+ * 432 bytes. */
+uint8_t corbelnib_chain(const uint8_t *board, size_t board_length, uint8_t *after, size_t after_length, size_t *moves);
+
+/* Writes the seven features of a board to the start of `features`: cards home, moves home at once, blocked low cards,
+ * imbalance of the foundations, cells used, empty columns, longest run; elements beyond stay. Refusals: 12 to 15, then 21 if
+ * `features` has fewer than 7 elements. */
+uint8_t corbelnib_features(const uint8_t *board, size_t board_length, uint64_t *features, size_t features_length);
+
+/* Tells the two scores of a board: the heuristic (less is nearer to the end) and the progress score (more is nearer).
+ * Refusals: 12 to 15. */
+uint8_t corbelnib_scores(const uint8_t *board, size_t board_length, int64_t *heuristic, int64_t *progress);
+
+/* Tells the signature of a board, the same for boards that differ only in the order of their cells or columns. Refusals: 12
+ * to 15. */
+uint8_t corbelnib_signature(const uint8_t *board, size_t board_length, uint64_t *signature);
+
+/* Writes the progress token, as f:51|i:1|u:0|e:7|r:1|b:0|m:1, to the start of `text`, with no 0 behind it, and tells in
+ * `*count` how many bytes it has; bytes beyond stay. Refusals: 12 to 15, then 21 if `text` has fewer than 32 bytes. */
+uint8_t corbelnib_token(const uint8_t *board, size_t board_length, uint8_t *text, size_t text_length, size_t *count);
+
+/* How many nodes scratch parts of these lengths hold: the least of nodes / 3, heap, keys / 2, costs / 2 and 2^32 - 1. */
+size_t corbelnib_capacity(size_t nodes_length, size_t heap_length, size_t keys_length, size_t costs_length);
+
+/* Judges a board: looks for a winning line, taking at most `budget` boards from its frontier; `partial` other than 0 allows
+ * an unfinished line. The scratch may hold anything before; earlier bytes affect no answer. A node takes 38 bytes of it, and
+ * the parts may have any lengths (corbelnib_capacity). Answers:
+ *
+ *    0  won: the list wins
+ *    1  the budget is used up; the list leads to the best board seen (only if partial)
+ *    2  nothing is left to look at; the list leads to the best board seen (only if partial)
+ *    3  the budget is used up, no list
+ *    4  nothing is left to look at, no list; this makes no claim that the board cannot be won
+ *   23  the scratch had no room for another node; no list
+ *
+ * An answer tells in `*pops` how many boards were taken and in `*moves` how many moves the list has (0 where there is none,
+ * at most 200), writes the list's moves, five bytes each, to the start of `list` (bytes beyond stay) and leaves every byte of
+ * the scratch 0. Two controllers never disagree: on one board no two answers, whatever their budgets and scratch, give two
+ * different winning lists, or won and 2 or 4; more budget and scratch keep 0, 2 and 4 as they were. Refusals, which change
+ * nothing: 12 to 15, 20, 21 if `list` has fewer than 1,000 bytes, 22. */
+uint8_t corbelnib_judge(const uint8_t *board, size_t board_length, size_t budget, uint8_t partial, uint32_t *nodes,
+                        size_t nodes_length, uint64_t *heap, size_t heap_length, uint64_t *keys, size_t keys_length,
+                        uint8_t *costs, size_t costs_length, uint8_t *list, size_t list_length, size_t *pops,
+                        size_t *moves);
+
+#ifdef __cplusplus
+}
+#endif
+
+#endif
