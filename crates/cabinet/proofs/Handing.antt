@@ -1,5 +1,5 @@
 -- A board, or the board where a line ended, goes into lent room.
-use mathlib.Core.Path.{_≡_, refl, sym, ap, ap₂, _∙_}
+use mathlib.Core.Path.{_≡_, sym, ap, ap₂, _∙_}
 use mathlib.Core.Bool.{Bool, true, false, _||_}
 use mathlib.Core.List.{List}
 use Prim.Native.Nat.{ℕ, _<_, _≤_}
@@ -7,8 +7,8 @@ use native.Mathlib.Omega.{arith}
 use lib.Dec.{eqb}
 use lib.ListN.{length}
 use Rattle.card.specs.Answer.{Answer, given, refused, unless}
-use Rattle.board.specs.Judged.{Verdict, fine, after}
-use Rattle.board.specs.Record.{examined, shown}
+use Rattle.board.specs.Judged.{Verdict, after}
+use Rattle.board.specs.Record.{examined}
 use Rattle.board.specs.Refusal.{numberOf, examinedTold}
 use Rattle.board.specs.declared.Board.{Board}
 use Rattle.board.specs.declared.Refusal.{Refusal}
@@ -24,7 +24,7 @@ use Rattle.safe.specs.Asked.{chainMoves, chainBoard, Chains}
 use Rattle.safe.specs.declared.Chained.{Chained}
 use Rattle.score.specs.Asked.{over}
 use Rattle.cabinet.specs.Wire.{bytesOf}
-use Rattle.cabinet.specs.Crossing.{Left, left, told, crossed, within}
+use Rattle.cabinet.specs.Crossing.{Left, left, told, crossed}
 use Rattle.cabinet.specs.Boards.{boardLeft, lineLeft, tried, chained}
 use Rattle.cabinet.proofs.Crossing.{no-room, some-room}
 

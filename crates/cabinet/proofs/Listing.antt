@@ -7,7 +7,6 @@ use borrow.Author.Tests.{ne-eqb}
 use lib.Dec.{leb}
 use lib.ListN.{length}
 use Rattle.card.specs.Answer.{Answer, given, refused, unless}
-use Rattle.board.specs.Table.{Table}
 use Rattle.board.specs.Judged.{Verdict, after}
 use Rattle.board.specs.Record.{examined, shown}
 use Rattle.board.specs.declared.Board.{Board}

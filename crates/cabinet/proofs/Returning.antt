@@ -1,14 +1,13 @@
 -- Bytes and board say the same: what was handed over as bytes is asked about as the board itself.
-use mathlib.Core.Path.{_≡_, refl, sym, ap, ap₂, _∙_}
+use mathlib.Core.Path.{_≡_, sym, ap, _∙_}
 use mathlib.Core.Bool.{Bool}
-use mathlib.Core.List.{List, [], _∷_, _++_, append-assoc}
-use Prim.Native.Nat.{ℕ, _+_, _≤_}
+use mathlib.Core.List.{List, _++_, append-assoc}
+use Prim.Native.Nat.{ℕ, _+_}
 use native.Mathlib.Omega.{arith}
 use borrow.Author.Tests.{eq-eqb}
 use lib.ListN.{length, take, drop, length-append, length-drop, take-append-drop}
 use lib.Seq.{take-at, drop-at, take-all, drop-drop}
 use Rattle.card.specs.Answer.{Answer, given, unless}
-use Rattle.board.specs.Judged.{fine}
 use Rattle.board.specs.Record.{examined}
 use Rattle.board.specs.Inner.{Sized}
 use Rattle.board.specs.declared.Board.{Board}

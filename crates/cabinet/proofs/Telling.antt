@@ -1,20 +1,19 @@
 -- Numbers told behind pointers.
 use mathlib.Core.Path.{_≡_, refl, sym, ap, ap₂, _∙_}
-use mathlib.Core.List.{List, [], _∷_, _++_}
+use mathlib.Core.List.{List, [], _∷_}
 use Prim.Native.Nat.{ℕ, _<_, _≤_}
 use native.Mathlib.Omega.{arith}
 use lib.IntN.{ℤ}
-use lib.ListN.{length, set, drop}
+use lib.ListN.{length, set}
 use Rattle.card.specs.Answer.{Answer, given, refused}
 use Rattle.board.specs.Judged.{Verdict, after}
 use Rattle.board.specs.Record.{examined, shown}
-use Rattle.board.specs.Refusal.{numberOf}
 use Rattle.board.specs.declared.Board.{Board}
 use Rattle.score.specs.Scores.{heuristic, progress}
 use Rattle.score.specs.Features.{featuresOf}
 use Rattle.score.specs.Asked.{featuresAsked, heuristicAsked, progressAsked, over}
 use Rattle.score.specs.declared.Features.{Features}
-use Rattle.cabinet.specs.Crossing.{Left, left, crossed, within}
+use Rattle.cabinet.specs.Crossing.{Left, left, crossed}
 use Rattle.cabinet.specs.Values.{valueLeft, numbersOf, numbersLeft}
 use Rattle.cabinet.proofs.Crossing.{no-room, some-room}
 

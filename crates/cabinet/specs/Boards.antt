@@ -4,7 +4,7 @@ use mathlib.Core.List.{List}
 use Prim.Native.Nat.{ℕ}
 use lib.Dec.{eqb}
 use lib.ListN.{length}
-use Rattle.card.specs.Answer.{Answer, given, refused, unless}
+use Rattle.card.specs.Answer.{Answer, given, unless}
 use Rattle.board.specs.Judged.{fine, after}
 use Rattle.board.specs.Record.{examined, shown, boardOf}
 use Rattle.board.specs.declared.Board.{Board}
@@ -18,21 +18,25 @@ use Rattle.score.specs.Asked.{over}
 use Rattle.cabinet.specs.Wire.{boardRoom, bytesOf}
 use Rattle.cabinet.specs.Crossing.{Left, left, told, crossed, asked, within}
 
--- the board of an answer goes into lent room
+-- the board of an answer goes into lent room: 21 for too little of it, after the answer's own refusals
 unfoldable pub boardLeft : Answer Board → List ℕ → Left (List ℕ)
 boardLeft a room = crossed (within boardRoom (length room) a) room (λ b. left 0 (over (bytesOf b) room))
 
+-- a board from its image
 unfoldable pub readLeft : List ℕ → List ℕ → Left (List ℕ)
 readLeft image room = boardLeft (imageRead image) room
 
+-- a board from a deck
 unfoldable pub dealLeft : List ℕ → List ℕ → Left (List ℕ)
 dealLeft deck room = boardLeft (dealAsked deck) room
 
+-- the board after the move of a record
 unfoldable pub moveLeft : List ℕ → List ℕ → List ℕ → Left (List ℕ)
 moveLeft board bytes room = boardLeft (asked board (λ b. moveMade b bytes)) room
 
 -- ---- a line of moves: the board where it ends, and how many moves were played
 
+-- the number is the verdict's: 0, or 30 at a bad move
 unfoldable pub lineLeft : Answer Ending → List ℕ → ℕ → Left (List ℕ × ℕ)
 lineLeft a room n =
     crossed (within boardRoom (length room) a) (room, n) (λ e. left (told (e .verdict)) (over (bytesOf (e .board)) room, e .moves))
@@ -41,6 +45,7 @@ lineLeft a room n =
 abbrev pub tried : Ending → Answer Ending
 tried e = unless (eqb (told (e .verdict)) 0 || eqb (told (e .verdict)) 30) (told (e .verdict)) (given e)
 
+-- a list of moves from a board: 12 to 15, 31, 21, then 30
 unfoldable pub replayLeft : List ℕ → List ℕ → List ℕ → ℕ → Left (List ℕ × ℕ)
 replayLeft board list room n = lineLeft (asked board (λ b. tried (replayed b list))) room n
 
@@ -48,5 +53,6 @@ replayLeft board list room n = lineLeft (asked board (λ b. tried (replayed b li
 unfoldable pub chained : Board → Ending
 chained b = record { verdict = fine; moves = length (chain (shown b)); board = boardOf (afterMoves (shown b) (chain (shown b))) }
 
+-- 12 to 15, then 21
 unfoldable pub chainLeft : List ℕ → List ℕ → ℕ → Left (List ℕ × ℕ)
 chainLeft board room n = lineLeft (asked board (λ b. after (examined b) (given (chained b)))) room n

@@ -1,6 +1,6 @@
 -- What every call from C has in common: a number handed back, and what stands then in the places that were lent.
-use Prim.Native.Nat.{ℕ}
 use mathlib.Core.List.{List}
+use Prim.Native.Nat.{ℕ}
 use lib.Dec.{eqb, leb}
 use lib.ListN.{length}
 use Rattle.card.specs.Answer.{Answer, given, refused, unless}
@@ -12,6 +12,7 @@ pub record Left (A : Type 0) : Type 0 where
   pub number : ℕ
   pub places : A
 
+-- the number, and those places
 abbrev pub left : {A : Type 0} → ℕ → A → Left A
 left n p = record { number = n; places = p }
 
@@ -20,7 +21,7 @@ abbrev pub told : {A : Type 0} → Answer A → ℕ
 told (given a) = 0
 told (refused n) = n
 
--- a refusal leaves the lent places as they were
+-- an answer leaves what f makes of it; a refusal is its number, and the lent places stay as they were
 abbrev pub crossed : {A B : Type 0} → Answer A → B → (A → Left B) → Left B
 crossed (given a) old f = f a
 crossed (refused n) old f = left n old

@@ -8,7 +8,6 @@ use Rattle.card.specs.Answer.{Answer, given, refused}
 use Rattle.board.specs.Table.{Table}
 use Rattle.board.specs.Judged.{after}
 use Rattle.board.specs.Record.{examined, shown}
-use Rattle.board.specs.declared.Board.{Board}
 use Rattle.moves.specs.declared.Move.{Move}
 use Rattle.generate.specs.Found.{found}
 use Rattle.generate.specs.Asked.{written, recordRoom}
@@ -26,6 +25,7 @@ use Rattle.cabinet.specs.declared.WayAnswer.the-variants.{Is, NoWay}
 unfoldable pub listLeft : Answer (List Move) → List ℕ → ℕ → Left (List ℕ × ℕ)
 listLeft a room n = crossed (within recordRoom (length room) a) (room, n) (λ ms. left 0 (written room 0 ms, length ms))
 
+-- what the search tries on a board, in order
 unfoldable pub candidatesLeft : List ℕ → List ℕ → ℕ → Left (List ℕ × ℕ)
 candidatesLeft board room n = listLeft (asked board (λ b. after (examined b) (given (candidates (shown b))))) room n
 
@@ -37,6 +37,7 @@ wayAsked kind =
     (cond (eqb kind 3) (given ColumnToCell)
     (cond (eqb kind 4) (given CellToColumn) (cond (eqb kind 5) (given CellToHome) (cond (eqb kind 6) (given HomeToColumn) (refused 30))))))
 
+-- what each case of the code's answer means
 abbrev pub wayTold : WayAnswer → Answer Way
 wayTold (Is w) = given w
 wayTold NoWay = refused 30
@@ -46,6 +47,7 @@ abbrev pub foundBy : Table → Answer Way → Answer (List Move)
 foundBy t (given w) = given (found t w)
 foundBy t (refused n) = refused n
 
+-- 12 to 15, 30 for a kind that is none, then 21
 unfoldable pub movesLeft : List ℕ → ℕ → List ℕ → ℕ → Left (List ℕ × ℕ)
 movesLeft board kind room n = listLeft (asked board (λ b. after (examined b) (foundBy (shown b) (wayAsked kind)))) room n
 
@@ -53,5 +55,6 @@ movesLeft board kind room n = listLeft (asked board (λ b. after (examined b) (f
 unfoldable pub textLeft : Answer (List ℕ) → List ℕ → ℕ → Left (List ℕ × ℕ)
 textLeft a room n = crossed (within tokenRoom (length room) a) (room, n) (λ text. left 0 (over text room, length text))
 
+-- the progress token of a board
 unfoldable pub tokenLeft : List ℕ → List ℕ → ℕ → Left (List ℕ × ℕ)
 tokenLeft board room n = textLeft (asked board (λ b. after (examined b) (given (tokenOf (featuresOf (shown b)))))) room n

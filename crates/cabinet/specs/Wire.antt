@@ -4,13 +4,15 @@ use Prim.Native.Nat.{ℕ}
 use lib.ListN.{take, drop}
 use Rattle.board.specs.declared.Board.{Board}
 
+-- what a board takes
 abbrev pub boardRoom : ℕ
 boardRoom = 432
 
--- four cells, four foundation counts, eight column counts, 416 codes
+-- the board of some bytes: four cells, four foundation counts, eight column counts, 416 codes
 unfoldable pub boardIn : List ℕ → Board
 boardIn bytes =
     record { cells = take 4 bytes; foundation = take 4 (drop 4 bytes); counts = take 8 (drop 8 bytes); tableau = take 416 (drop 16 bytes) }
 
+-- the bytes of a board
 unfoldable pub bytesOf : Board → List ℕ
 bytesOf b = b .cells ++ (b .foundation ++ (b .counts ++ b .tableau))

@@ -4,7 +4,6 @@ use Prim.Native.Nat.{ℕ}
 use Rattle.card.specs.Answer.{Answer}
 use Rattle.score.specs.Asked.{featuresAsked, featuresTold}
 use Rattle.score.specs.declared.Features.{Features}
-use Rattle.score.specs.declared.FeaturesAnswer.{FeaturesAnswer}
 use Rattle.cabinet.specs.Crossing.{left}
 use Rattle.cabinet.specs.Values.{numbersLeft, featuresLeft}
 use Rattle.cabinet.proofs.Crossing.{no-board, a-board}
