@@ -6,4 +6,5 @@ pub mod Listing
 pub mod Telling
 pub mod Judging
 pub mod Returning
+pub mod Calls
 pub mod Unique
