@@ -131,7 +131,10 @@ fn summary(all: &[Both]) {
     let mut ratios: Vec<f64> = all.iter().map(Both::ratio).collect();
     ratios.sort_by(f64::total_cmp);
     let (least, most) = (ratios[0], ratios[ratios.len() - 1]);
-    println!("ratio: median {:.2}, least {least:.2}, most {most:.2}", ratios[ratios.len() / 2]);
+    println!(
+        "ratio: median {:.2}, least {least:.2}, most {most:.2}",
+        ratios[ratios.len() / 2]
+    );
     let sum = |part: fn(&Both) -> f64| all.iter().map(part).sum::<f64>();
     let (ours, theirs) = (sum(|b| b.ours), sum(|b| b.theirs));
     let (pops, nodes) = (sum(|b| b.pops as f64), sum(|b| b.nodes as f64));
@@ -161,10 +164,18 @@ fn clearing() {
 }
 
 fn main() {
-    let mut numbers = [("first", 1), ("last", 100), ("budget", 100_000), ("long", 3)];
+    let mut numbers = [
+        ("first", 1),
+        ("last", 100),
+        ("budget", 100_000),
+        ("long", 3),
+    ];
     for word in std::env::args().skip(1) {
-        let given = word.split_once('=').and_then(|(name, n)| Some((name, n.parse().ok()?)));
-        let known = given.and_then(|(name, n)| Some((numbers.iter_mut().find(|k| k.0 == name)?, n)));
+        let given = word
+            .split_once('=')
+            .and_then(|(name, n)| Some((name, n.parse().ok()?)));
+        let known =
+            given.and_then(|(name, n)| Some((numbers.iter_mut().find(|k| k.0 == name)?, n)));
         let Some((known, n)) = known else {
             panic!("{word}: not NAME=NUMBER");
         };
