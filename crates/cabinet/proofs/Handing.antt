@@ -1,12 +1,14 @@
 -- A board, or the board where a line ended, goes into lent room.
 use mathlib.Core.Path.{_≡_, sym, ap, ap₂, _∙_}
-use mathlib.Core.Bool.{Bool, true, false, _||_}
+use mathlib.Core.Bool.{Bool, true}
 use mathlib.Core.List.{List}
-use Prim.Native.Nat.{ℕ, _<_, _≤_}
+use Prim.Native.Nat.{ℕ, _%_, _<_, _≤_}
 use native.Mathlib.Omega.{arith}
-use lib.Dec.{eqb}
+use borrow.Author.Tests.{eqb-true}
+use lib.Dec.{eqb, leb}
 use lib.ListN.{length}
 use Rattle.card.specs.Answer.{Answer, given, refused, unless}
+use Rattle.card.proofs.Words.{second}
 use Rattle.board.specs.Judged.{Verdict, after}
 use Rattle.board.specs.Record.{examined}
 use Rattle.board.specs.Refusal.{numberOf, examinedTold}
@@ -17,7 +19,7 @@ use Rattle.board.specs.declared.Examined.the-variants.{WellFormed, Refused}
 use Rattle.questions.proofs.Asking.{after-no, after-yes, verdict-fine}
 use Rattle.intake.specs.Handed.{boardTold}
 use Rattle.replay.specs.Handed.{verdictOf, boardOr, Moves, Ends}
-use Rattle.replay.specs.Line.{Ending}
+use Rattle.replay.specs.Line.{Ending, isLine}
 use Rattle.replay.specs.declared.Moved.{Moved}
 use Rattle.replay.specs.declared.Replayed.{Replayed}
 use Rattle.safe.specs.Asked.{chainMoves, chainBoard, Chains}
@@ -25,7 +27,7 @@ use Rattle.safe.specs.declared.Chained.{Chained}
 use Rattle.score.specs.Asked.{over}
 use Rattle.cabinet.specs.Wire.{bytesOf}
 use Rattle.cabinet.specs.Crossing.{Left, left, told, crossed}
-use Rattle.cabinet.specs.Boards.{boardLeft, lineLeft, tried, chained}
+use Rattle.cabinet.specs.Boards.{boardLeft, lineLeft, chained}
 use Rattle.cabinet.proofs.Crossing.{no-room, some-room}
 
 -- ---- a board
@@ -77,24 +79,18 @@ ending : {v w : Verdict} {i j : ℕ} {c d : Board} → v ≡ w → i ≡ j → c
     → _≡_ {A = Ending} (record { verdict = v; moves = i; board = c }) (record { verdict = w; moves = j; board = d })
 ending p q s = cc
 
--- ---- replay: a line that ended well or at a bad move has a board
+-- ---- replay
 
-module _ {e : Ending} {r : Replayed} (x : Ends e r) where
-  pub ending-is : record { verdict = examinedTold (r .said); moves = r .moves; board = r .board } ≡ e
-  ending-is = ending (x .said) (x .moves) (x .board)
+pub ending-is : {e : Ending} {r : Replayed} → Ends e r → record { verdict = examinedTold (r .said); moves = r .moves; board = r .board } ≡ e
+ending-is x = ending (x .said) (x .moves) (x .board)
 
-  module _ {number : ℕ} {t : Bool} (p : number ≡ told (examinedTold (r .said))) (q : t ≡ (eqb number 0 || eqb number 30)) where
-    number-is : number ≡ told (e .verdict)
-    number-is = p ∙ ap told (x .said)
+-- whether the list is a line decides
+pub by-line : {A : Type 0} {t ok : Bool} (a : Answer A) (list : List ℕ) → t ≡ isLine list → t ≡ ok → unless ok 31 a ≡ unless (isLine list) 31 a
+by-line a list p q = ap (λ (x : Bool). unless x 31 a) (sym q ∙ p)
 
-    tried-is : unless t number (given e) ≡ tried e
-    tried-is = ap (λ (ok : Bool). unless ok number (given e)) q ∙ ap (λ (k : ℕ). unless (eqb k 0 || eqb k 30) k (given e)) number-is
-
-    pub tried-yes : t ≡ true → given e ≡ tried e
-    tried-yes h = ap (λ (ok : Bool). unless ok number (given e)) (sym h) ∙ tried-is
-
-    pub tried-no : t ≡ false → refused number ≡ tried e
-    tried-no h = ap (λ (ok : Bool). unless ok number (given e)) (sym h) ∙ tried-is
+pub line-five : (list : List ℕ) → isLine list ≡ true → length list % 5 ≡ 0
+unfolding isLine
+line-five list e = eqb-true (length list % 5) 0 (second (leb (length list) 1000) (eqb (length list % 5) 0) e)
 
 -- ---- the chain
 

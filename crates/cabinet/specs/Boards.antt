@@ -1,8 +1,6 @@
 -- The calls that hand back a board, at the start of lent room; every other byte stays.
-use mathlib.Core.Bool.{_||_}
 use mathlib.Core.List.{List}
 use Prim.Native.Nat.{ℕ}
-use lib.Dec.{eqb}
 use lib.ListN.{length}
 use Rattle.card.specs.Answer.{Answer, given, unless}
 use Rattle.board.specs.Judged.{fine, after}
@@ -11,7 +9,7 @@ use Rattle.board.specs.declared.Board.{Board}
 use Rattle.intake.specs.Image.{imageRead}
 use Rattle.intake.specs.Deal.{dealAsked}
 use Rattle.replay.specs.Step.{moveMade}
-use Rattle.replay.specs.Line.{Ending, replayed}
+use Rattle.replay.specs.Line.{Ending, lineFrom, recordsIn, isLine}
 use Rattle.replay.specs.Played.{afterMoves}
 use Rattle.safe.specs.Chain.{chain}
 use Rattle.score.specs.Asked.{over}
@@ -41,13 +39,10 @@ unfoldable pub lineLeft : Answer Ending → List ℕ → ℕ → Left (List ℕ 
 lineLeft a room n =
     crossed (within boardRoom (length room) a) (room, n) (λ e. left (told (e .verdict)) (over (bytesOf (e .board)) room, e .moves))
 
--- a line that is stopped by a bad move, 30, ends on the board before it; any other refusal has no board
-abbrev pub tried : Ending → Answer Ending
-tried e = unless (eqb (told (e .verdict)) 0 || eqb (told (e .verdict)) 30) (told (e .verdict)) (given e)
-
--- a list of moves from a board: 12 to 15, 31, 21, then 30
+-- a list of moves from a board: 12 to 15, 31, 21; a bad move stops the line, and 30 is told with the board before it
 unfoldable pub replayLeft : List ℕ → List ℕ → List ℕ → ℕ → Left (List ℕ × ℕ)
-replayLeft board list room n = lineLeft (asked board (λ b. tried (replayed b list))) room n
+replayLeft board list room n =
+    lineLeft (asked board (λ b. after (examined b) (unless (isLine list) 31 (given (lineFrom b (recordsIn list)))))) room n
 
 -- the chain of safe moves, which none stops
 unfoldable pub chained : Board → Ending

@@ -83,15 +83,18 @@ pub extern "C" fn corbelnib_replay(
     if board.len() != wire::BYTES {
         return 12;
     }
-    let replayed = replay::replay(wire::board_in(board), list);
+    let start = wire::board_in(board);
+    if let Examined::Refused(why) = board::examine(start) {
+        return board::number(why);
+    }
+    if !tell::is_line(list) {
+        return 31;
+    }
+    let replayed = replay::replay_at(start, list);
     let said = replayed.said;
     let b = replayed.board;
     let n = replayed.moves;
-    let number = tell::verdict(said);
-    if tell::has_board(number) {
-        return hand::line(said, b, n, after, played);
-    }
-    number
+    hand::line(said, b, n, after, played)
 }
 
 // The board after the chain of safe moves, and their number: 12 to 15, 21.

@@ -1,9 +1,8 @@
 // What an answer is to C: its number, and what it tells behind a pointer; a refusal tells its number alone.
 ghost use mathlib.Core.Path.{_≡_};
-ghost use mathlib.Core.Bool.{_||_};
-ghost use lib.Dec.{eqb};
 ghost use Rattle.board.specs.Refusal.{examinedTold};
 ghost use Rattle.questions.specs.Told.{countTold};
+ghost use Rattle.replay.specs.Line.{isLine};
 ghost use Rattle.score.specs.Asked.{scoreTold};
 ghost use Rattle.signature.specs.Signed.{signatureTold};
 ghost use Rattle.cabinet.specs.Crossing.{left, told};
@@ -76,14 +75,16 @@ pub fn is_answer(number: u8) -> bool
     number == 23
 }
 
-// A line ended well, or at a bad move.
-pub fn has_board(number: u8) -> bool
-    ensures { λ r. ⌜ r ≡ (eqb number 0 || eqb number 30) ⌝ }
+// At most 200 records, and nothing after them.
+pub fn is_line(list: &[u8]) -> bool
+    ensures { λ r. ⌜ r ≡ isLine (now (list .entry)) ⌝ }
 {
-    if number == 0 {
-        return true;
+    let n = list.len();
+    if 1000 < n {
+        return false;
     }
-    number == 30
+    let over = n % 5;
+    over == 0
 }
 
 // The kind of move with this number, as in a move record.
