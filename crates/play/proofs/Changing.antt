@@ -333,8 +333,12 @@ module _ (b : Board) (g : GoodColumns (b .counts) (b .tableau)) where
   becomes-cell i code l e =
       record { shows = ap (λ (x : ℕ). record { cells = set (b .cells) i x; foundation = b .foundation; columns = listed 8 (columnAt (b .counts) (b .tableau)) }) e; good = g }
 
-  pub becomes-home : (s n : ℕ) (l : List ℕ) → n ≡ length l
-      → Becomes (record { cells = b .cells; foundation = set (b .foundation) s n; counts = b .counts; tableau = b .tableau }) (put (shown b) (home s) l)
+  pub becomes-home : (s n : ℕ) {F : List ℕ} → F ≡ set (b .foundation) s n → (l : List ℕ) → n ≡ length l
+      → Becomes (record { cells = b .cells; foundation = F; counts = b .counts; tableau = b .tableau }) (put (shown b) (home s) l)
   unfolding shown
-  becomes-home s n l e =
-      record { shows = ap (λ (x : ℕ). record { cells = b .cells; foundation = set (b .foundation) s x; columns = listed 8 (columnAt (b .counts) (b .tableau)) }) e; good = g }
+  becomes-home s n f l e =
+      record {
+        shows = ap (λ (x : List ℕ). record { cells = b .cells; foundation = x; columns = listed 8 (columnAt (b .counts) (b .tableau)) })
+            (f ∙ ap (set (b .foundation) s) e);
+        good = g;
+      }

@@ -183,13 +183,6 @@ module _ (b : Board) (m : Move) {r1 : Board} (e : Becomes r1 (without (shown b) 
       let z = ap (λ (x : Table). length (there x (column d))) (e .shows) in
       omega arith
 
-  pub step-piles : (w : without (shown b) m .foundation ≡ shown b .foundation) → Sound b → GoodPiles (r1 .foundation)
-  step-piles w s =
-      subst GoodPiles (shown-foundation b ∙ sym w ∙ sym (ap (λ (x : Table). x .foundation) (e .shows)) ∙ sym (shown-foundation r1)) (s .inPiles)
-
-  pub step-cells : (w : length (without (shown b) m .cells) ≡ 4) → length (r1 .cells) ≡ 4
-  step-cells w = ap length (shown-cells r1 ∙ ap (λ (x : Table). x .cells) (e .shows)) ∙ w
-
 -- ---- the five kinds of one card
 
 module _ (t : Table) (i : ℕ) where
@@ -295,6 +288,14 @@ module _ {b : Board} {m : Move} (r : Ready b m) where
   pub cell-is-free : (i : ℕ) → to m ≡ cell i → getD (shown b .cells) i 0 ≡ 255
   cell-is-free i q = eqb-true (getD (shown b .cells) i 0) 255 (subst (λ (p : Place). cellFree (shown b) p ≡ true) q (tests r .free))
 
+-- ---- the move that a match tells
+
+pub ready-for : {b : Board} {m n : Move} → Ready b m → m ≡ n → Ready b n
+ready-for {b} r e = subst (Ready b) e r
+
+pub played-as : {b r : Board} {m n : Move} → Ready b m → m ≡ n → Becomes r (afterMove (shown b) n) → Becomes r (afterMove (shown b) m)
+played-as {b} {r} p e d = subst (λ (m : Move). Becomes r (afterMove (shown b) m)) (sym e) d
+
 -- ---- each kind of one card, step by step
 
 module _ {b r1 : Board} {s : ℕ} {c : Card} (r : Ready b (TableauToFoundation s c))
@@ -302,10 +303,6 @@ module _ {b r1 : Board} {s : ℕ} {c : Card} (r : Ready b (TableauToFoundation s
   taken-2 : Becomes r1 (without (shown b) (TableauToFoundation s c))
   unfolding without
   taken-2 = f
-
-  pub piles-2 : GoodPiles (r1 .foundation)
-  unfolding without
-  piles-2 = step-piles b (TableauToFoundation s c) taken-2 refl (r .sound)
 
   pub played-2 : {r2 : Board} → ((l : List ℕ) → getD (r1 .foundation) (suitNumber (c .suit)) 0 + 1 ≡ length l → Becomes r2 (put (shown r1) (home (suitNumber (c .suit))) l))
       → Becomes r2 (afterMove (shown b) (TableauToFoundation s c))
@@ -317,10 +314,6 @@ module _ {b r1 : Board} {s i : ℕ} {c : Card} (r : Ready b (TableauToFreeCell s
   unfolding without
   taken-3 = f
 
-  pub cells-3 : length (r1 .cells) ≡ 4
-  unfolding without
-  cells-3 = step-cells b (TableauToFreeCell s i c) taken-3 (table-fair r .seats .four)
-
   pub played-3 : {r2 : Board} {x : ℕ} → x ≡ codeOf c → ((l : List ℕ) → x ≡ cellCode l → Becomes r2 (put (shown r1) (cell i) l))
       → Becomes r2 (afterMove (shown b) (TableauToFreeCell s i c))
   unfolding without
@@ -330,9 +323,6 @@ module _ {b r1 : Board} {i d : ℕ} {c : Card} (r : Ready b (FreeCellToTableau i
   taken-4 : Becomes r1 (without (shown b) (FreeCellToTableau i d c))
   unfolding without
   taken-4 = f (othersOf 1 (there (shown b) (cell i))) (sym (cell-given (shown b) i))
-
-  pub good-4 : GoodColumns (r1 .counts) (r1 .tableau)
-  good-4 = taken-4 .good
 
   pub room-4 : getD (r1 .counts) d 0 < 52
   room-4 = step-room b (FreeCellToTableau i d c) taken-4 r d (column-to r d refl) refl (ap length (in-hand r refl))
@@ -346,13 +336,6 @@ module _ {b r1 : Board} {i : ℕ} {c : Card} (r : Ready b (FreeCellToFoundation 
   unfolding without
   taken-5 = f (othersOf 1 (there (shown b) (cell i))) (sym (cell-given (shown b) i))
 
-  pub good-5 : GoodColumns (r1 .counts) (r1 .tableau)
-  good-5 = taken-5 .good
-
-  pub piles-5 : GoodPiles (r1 .foundation)
-  unfolding without
-  piles-5 = step-piles b (FreeCellToFoundation i c) taken-5 refl (r .sound)
-
   pub played-5 : {r2 : Board} → ((l : List ℕ) → getD (r1 .foundation) (suitNumber (c .suit)) 0 + 1 ≡ length l → Becomes r2 (put (shown r1) (home (suitNumber (c .suit))) l))
       → Becomes r2 (afterMove (shown b) (FreeCellToFoundation i c))
   played-5 g = home-step b (FreeCellToFoundation i c) taken-5 (codeOf c) (in-hand r refl) (suitNumber (c .suit)) refl g
@@ -364,9 +347,6 @@ module _ {b r1 : Board} {s : Suit} {d : ℕ} {c : Card} (r : Ready b (Foundation
   taken-6 =
       f (othersOf 1 (there (shown b) (home (suitNumber s))))
       (ap (λ (l : List ℕ). getD l (suitNumber s) 0 - 1) (shown-foundation b) ∙ sym (pile-given (shown b) (suitNumber s)))
-
-  pub good-6 : GoodColumns (r1 .counts) (r1 .tableau)
-  good-6 = taken-6 .good
 
   pub room-6 : getD (r1 .counts) d 0 < 52
   room-6 = step-room b (FoundationToTableau s d c) taken-6 r d (column-to r d refl) refl (ap length (in-hand r refl))

@@ -1,14 +1,14 @@
 -- What the inner functions make of a record: it shows a given table, and its columns are good.
 use mathlib.Core.Path.{_≡_}
-use mathlib.Core.List.{List}
+use mathlib.Core.List.{List, [], _∷_, _++_}
 use Prim.Native.Nat.{ℕ, _+_, _≤_, _<_}
 use lib.ListN.{length, getD}
 use Rattle.board.specs.Table.{Table}
 use Rattle.board.specs.Record.{shown}
 use Rattle.board.specs.Inner.{GoodColumns, Sound}
 use Rattle.board.specs.declared.Board.{Board}
-use Rattle.moves.specs.Move.{sayable}
-use Rattle.moves.specs.Play.{allowed}
+use Rattle.moves.specs.Move.{column, sayable}
+use Rattle.moves.specs.Play.{put, there, othersOf, lastOf, allowed}
 use Rattle.moves.specs.declared.Move.{Move}
 use mathlib.Core.Bool.{true}
 
@@ -34,6 +34,27 @@ pub record Copied (old new : List ℕ) (from to n : ℕ) : Type 0 where
   pub same : (k : ℕ) → k < n → getD new (to + k) 0 ≡ getD old (from + k) 0
   pub below : (p : ℕ) → p < to → getD new p 0 ≡ getD old p 0
   pub above : (p : ℕ) → to + n ≤ p → getD new p 0 ≡ getD old p 0
+
+-- one column of a board is other cards now, whatever lies in its cells and on its foundations
+pub record Changes (counts tableau newCounts newTableau : List ℕ) (i : ℕ) (cards : Table → List ℕ) : Type 0 where
+  pub becomes : (cells foundation : List ℕ)
+      → Becomes (record { cells = cells; foundation = foundation; counts = newCounts; tableau = newTableau })
+      (put (shown (record { cells = cells; foundation = foundation; counts = counts; tableau = tableau })) (column i)
+      (cards (shown (record { cells = cells; foundation = foundation; counts = counts; tableau = tableau }))))
+
+-- one card more lies on column i
+abbrev pub Lays : List ℕ → List ℕ → List ℕ → List ℕ → ℕ → ℕ → Type 0
+Lays counts tableau newCounts newTableau i code =
+    Changes counts tableau newCounts newTableau i (λ t. there t (column i) ++ (code ∷ []))
+
+-- the top n cards of column i are gone
+abbrev pub Drops : List ℕ → List ℕ → List ℕ → List ℕ → ℕ → ℕ → Type 0
+Drops counts tableau newCounts newTableau i n = Changes counts tableau newCounts newTableau i (λ t. othersOf n (there t (column i)))
+
+-- the top n cards of column s lie on column d too
+abbrev pub Doubles : List ℕ → List ℕ → List ℕ → List ℕ → ℕ → ℕ → ℕ → Type 0
+Doubles counts tableau newCounts newTableau s d n =
+    Changes counts tableau newCounts newTableau d (λ t. there t (column d) ++ lastOf n (there t (column s)))
 
 -- a move that may be played on a record
 pub record Ready (b : Board) (m : Move) : Type 0 where

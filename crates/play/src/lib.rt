@@ -1,18 +1,14 @@
 // Playing a move on a board record.
 ghost use mathlib.Core.Path.{_≡_};
 ghost use mathlib.Core.Bool.{true};
-ghost use mathlib.Core.List.{_∷_, [], _++_};
 ghost use Prim.Native.Nat.{_+_, _-_, _≤_, _<_};
-ghost use lib.ListN.{length, getD};
+ghost use lib.ListN.{length, getD, set};
 ghost use Rattle.card.specs.Card.{isCard};
-ghost use Rattle.board.specs.Record.{shown, columnAt};
-ghost use Rattle.board.specs.Inner.{GoodColumns, GoodPiles};
-ghost use Prim.Native.Nat.{ℕ};
-ghost use mathlib.Core.List.{List};
 ghost use Rattle.card.specs.Suit.{suitNumber};
-ghost use Rattle.moves.specs.Move.{column, cell, home};
-ghost use Rattle.moves.specs.Play.{put, there, othersOf, lastOf, cellCode, afterMove};
-ghost use Rattle.play.specs.Change.{Becomes, Cleared, Apart, Copied, Ready};
+ghost use Rattle.board.specs.Record.{shown};
+ghost use Rattle.board.specs.Inner.{GoodColumns, GoodPiles};
+ghost use Rattle.moves.specs.Play.{afterMove};
+ghost use Rattle.play.specs.Change.{Becomes, Cleared, Apart, Copied, Lays, Drops, Doubles, Ready};
 
 pub mod allow;
 
@@ -22,20 +18,18 @@ use card::Suit;
 use moves::Move;
 
 // One card more on a column.
-fn lay(b: Board, i: usize, code: u8) -> Board
-    requires { ⌜ GoodColumns (b .counts) (b .tableau) ⌝ }
+fn lay(counts: &mut [u8; 8], tableau: &mut [u8; 416], i: usize, code: u8)
+    requires { ⌜ GoodColumns (now counts) (now tableau) ⌝ }
     requires { ⌜ i < 8 ⌝ }
-    requires { ⌜ getD (b .counts) i 0 < 52 ⌝ }
+    requires { ⌜ getD (now counts) i 0 < 52 ⌝ }
     requires { ⌜ isCard code ≡ true ⌝ }
-    ensures { λ r. ⌜ Becomes r (put (shown b) (column i) (there (shown b) (column i) ++ (code ∷ []))) ⌝ }
+    ensures { λ r. ⌜ Lays (now (counts .entry)) (now (tableau .entry)) (now (counts .exit)) (now (tableau .exit)) i code ⌝ }
 {
-    let count = b.counts[i];
+    let count = counts[i];
     let first = i * 52;
     let at = first + card::wide(count);
-    let mut r = b;
-    r.tableau[at] = code;
-    r.counts[i] = count + 1;
-    r
+    tableau[at] = code;
+    counts[i] = count + 1;
 }
 
 // Zero n places from `at`.
@@ -68,96 +62,78 @@ fn copy(tableau: &mut [u8; 416], from: usize, to: usize, n: usize)
 }
 
 // The top n cards of a column are gone.
-fn drop_top(b: Board, i: usize, n: usize) -> Board
-    requires { ⌜ GoodColumns (b .counts) (b .tableau) ⌝ }
+fn drop_top(counts: &mut [u8; 8], tableau: &mut [u8; 416], i: usize, n: usize)
+    requires { ⌜ GoodColumns (now counts) (now tableau) ⌝ }
     requires { ⌜ i < 8 ⌝ }
-    requires { ⌜ n ≤ getD (b .counts) i 0 ⌝ }
-    ensures { λ r. ⌜ Becomes r (put (shown b) (column i) (othersOf n (there (shown b) (column i)))) ⌝ }
+    requires { ⌜ n ≤ getD (now counts) i 0 ⌝ }
+    ensures { λ r. ⌜ Drops (now (counts .entry)) (now (tableau .entry)) (now (counts .exit)) (now (tableau .exit)) i n ⌝ }
 {
-    let left = card::wide(b.counts[i]) - n;
+    let left = card::wide(counts[i]) - n;
     let first = i * 52;
     let at = first + left;
-    let mut r = b;
-    clear(&mut r.tableau, at, n);
-    r.counts[i] = left as u8;
-    r
+    clear(tableau, at, n);
+    counts[i] = left as u8;
 }
 
 // The top n cards of a column, once more on another.
-fn put_run(b: Board, source: usize, destination: usize, n: usize) -> Board
-    requires { ⌜ GoodColumns (b .counts) (b .tableau) ⌝ }
+fn put_run(
+    counts: &mut [u8; 8],
+    tableau: &mut [u8; 416],
+    source: usize,
+    destination: usize,
+    n: usize,
+)
+    requires { ⌜ GoodColumns (now counts) (now tableau) ⌝ }
     requires { ⌜ source < 8 ⌝ }
     requires { ⌜ destination < 8 ⌝ }
     requires { ⌜ (source ≡ destination → ⊥) ⌝ }
-    requires { ⌜ n ≤ getD (b .counts) source 0 ⌝ }
-    requires { ⌜ getD (b .counts) destination 0 + n ≤ 52 ⌝ }
-    ensures { λ r. ⌜ Becomes r (put (shown b) (column destination) (there (shown b) (column destination) ++ lastOf n (there (shown b) (column source)))) ⌝ }
+    requires { ⌜ n ≤ getD (now counts) source 0 ⌝ }
+    requires { ⌜ getD (now counts) destination 0 + n ≤ 52 ⌝ }
+    ensures { λ r. ⌜ Doubles (now (counts .entry)) (now (tableau .entry)) (now (counts .exit)) (now (tableau .exit)) source destination n ⌝ }
 {
-    let deepest = card::wide(b.counts[source]) - n;
+    let deepest = card::wide(counts[source]) - n;
     let first = source * 52;
     let from = first + deepest;
-    let count = card::wide(b.counts[destination]);
+    let count = card::wide(counts[destination]);
     let start = destination * 52;
     let to = start + count;
-    let mut r = b;
-    copy(&mut r.tableau, from, to, n);
+    copy(tableau, from, to, n);
     let more = count + n;
-    r.counts[destination] = more as u8;
-    r
-}
-
-// A cell with this code in it.
-fn set_cell(b: Board, i: usize, code: u8) -> Board
-    requires { ⌜ GoodColumns (b .counts) (b .tableau) ⌝ }
-    requires { ⌜ length (b .cells) ≡ 4 ⌝ }
-    requires { ⌜ i < 4 ⌝ }
-    ensures { λ r. ⌜ ((l : List ℕ) → code ≡ cellCode l → Becomes r (put (shown b) (cell i) l)) ⌝ }
-{
-    let mut r = b;
-    r.cells[i] = code;
-    r
-}
-
-// A foundation with this count.
-fn set_home(b: Board, s: usize, n: u8) -> Board
-    requires { ⌜ GoodColumns (b .counts) (b .tableau) ⌝ }
-    requires { ⌜ length (b .foundation) ≡ 4 ⌝ }
-    requires { ⌜ s < 4 ⌝ }
-    ensures { λ r. ⌜ ((l : List ℕ) → n ≡ length l → Becomes r (put (shown b) (home s) l)) ⌝ }
-{
-    let mut r = b;
-    r.foundation[s] = n;
-    r
+    counts[destination] = more as u8;
 }
 
 // The card's foundation with one card more.
-fn go_home(b: Board, card: Card) -> Board
-    requires { ⌜ GoodColumns (b .counts) (b .tableau) ⌝ }
-    requires { ⌜ GoodPiles (b .foundation) ⌝ }
-    ensures { λ r. ⌜ ((l : List ℕ) → getD (b .foundation) (suitNumber (card .suit)) 0 + 1 ≡ length l → Becomes r (put (shown b) (home (suitNumber (card .suit))) l)) ⌝ }
+fn go_home(foundation: &mut [u8; 4], card: Card)
+    requires { ⌜ GoodPiles (now foundation) ⌝ }
+    ensures { λ r. ⌜ now (foundation .exit) ≡ set (now (foundation .entry)) (suitNumber (card .suit)) (getD (now (foundation .entry)) (suitNumber (card .suit)) 0 + 1) ⌝ }
 {
     let suit = card.suit;
     let s = card::wide(suit.number());
-    let n = b.foundation[s];
-    set_home(b, s, n + 1)
+    let n = foundation[s];
+    foundation[s] = n + 1;
 }
 
 // A suit's foundation with one card less.
-fn leave_home(b: Board, suit: Suit) -> Board
-    requires { ⌜ GoodColumns (b .counts) (b .tableau) ⌝ }
-    requires { ⌜ GoodPiles (b .foundation) ⌝ }
-    requires { ⌜ 1 ≤ getD (b .foundation) (suitNumber suit) 0 ⌝ }
-    ensures { λ r. ⌜ ((l : List ℕ) → getD (b .foundation) (suitNumber suit) 0 - 1 ≡ length l → Becomes r (put (shown b) (home (suitNumber suit)) l)) ⌝ }
+fn leave_home(foundation: &mut [u8; 4], suit: Suit)
+    requires { ⌜ GoodPiles (now foundation) ⌝ }
+    requires { ⌜ 1 ≤ getD (now foundation) (suitNumber suit) 0 ⌝ }
+    ensures { λ r. ⌜ now (foundation .exit) ≡ set (now (foundation .entry)) (suitNumber suit) (getD (now (foundation .entry)) (suitNumber suit) 0 - 1) ⌝ }
 {
     let s = card::wide(suit.number());
-    let n = b.foundation[s];
-    set_home(b, s, n - 1)
+    let n = foundation[s];
+    foundation[s] = n - 1;
 }
 
-// The board after a move that is known to be allowed.
-pub fn apply_at(b: Board, m: Move) -> Board
-    requires { ⌜ Ready b m ⌝ }
-    ensures { λ r. ⌜ Becomes r (afterMove (shown b) m) ⌝ }
+// A move that is known to be allowed, played on a board that lies in four arrays.
+pub fn apply_to(
+    m: Move,
+    cells: &mut [u8; 4],
+    foundation: &mut [u8; 4],
+    counts: &mut [u8; 8],
+    tableau: &mut [u8; 416],
+)
+    requires { ⌜ Ready (record { cells = now cells; foundation = now foundation; counts = now counts; tableau = now tableau }) m ⌝ }
+    ensures { λ r. ⌜ Becomes (record { cells = now (cells .exit); foundation = now (foundation .exit); counts = now (counts .exit); tableau = now (tableau .exit) }) (afterMove (shown (record { cells = now (cells .entry); foundation = now (foundation .entry); counts = now (counts .entry); tableau = now (tableau .entry) })) m) ⌝ }
 {
     match m {
         Move::TableauToTableau {
@@ -166,40 +142,58 @@ pub fn apply_at(b: Board, m: Move) -> Board
             count,
             card: _,
         } => {
-            let twice = put_run(b, source, destination, count);
-            drop_top(twice, source, count)
+            put_run(counts, tableau, source, destination, count);
+            drop_top(counts, tableau, source, count);
         }
         Move::TableauToFoundation { source, card } => {
-            let taken = drop_top(b, source, 1);
-            go_home(taken, card)
+            drop_top(counts, tableau, source, 1);
+            go_home(foundation, card);
         }
         Move::TableauToFreeCell {
             source,
             cell_index,
             card,
         } => {
-            let taken = drop_top(b, source, 1);
-            set_cell(taken, cell_index, card::code_of(card))
+            drop_top(counts, tableau, source, 1);
+            cells[cell_index] = card::code_of(card);
         }
         Move::FreeCellToTableau {
             cell_index,
             destination,
             card,
         } => {
-            let taken = set_cell(b, cell_index, 255);
-            lay(taken, destination, card::code_of(card))
+            cells[cell_index] = 255;
+            lay(counts, tableau, destination, card::code_of(card));
         }
         Move::FreeCellToFoundation { cell_index, card } => {
-            let taken = set_cell(b, cell_index, 255);
-            go_home(taken, card)
+            cells[cell_index] = 255;
+            go_home(foundation, card);
         }
         Move::FoundationToTableau {
             suit,
             destination,
             card,
         } => {
-            let taken = leave_home(b, suit);
-            lay(taken, destination, card::code_of(card))
+            leave_home(foundation, suit);
+            lay(counts, tableau, destination, card::code_of(card));
         }
+    }
+}
+
+// The board after a move that is known to be allowed.
+pub fn apply_at(b: Board, m: Move) -> Board
+    requires { ⌜ Ready b m ⌝ }
+    ensures { λ r. ⌜ Becomes r (afterMove (shown b) m) ⌝ }
+{
+    let mut cells = b.cells;
+    let mut foundation = b.foundation;
+    let mut counts = b.counts;
+    let mut tableau = b.tableau;
+    apply_to(m, &mut cells, &mut foundation, &mut counts, &mut tableau);
+    Board {
+        cells,
+        foundation,
+        counts,
+        tableau,
     }
 }

@@ -18,23 +18,19 @@ mul-first : tie.Need-mul-first
 mul-first c = search needs
 
 add-at : tie.Need-add-at
-add-at c =
-    omega (arith, c .wide .ensures, c .before .before .pre .0 .within (c .before .before .args .i) (c .before .before .pre .1 .0))
+add-at c = omega (arith, c .wide .ensures, c .before .before .pre .0 .within (c .before .before .args .i) (c .before .before .pre .1 .0))
 
 clear-requires : tie.Need-clear-requires
-clear-requires c κs =
-    (c .before .before .before .pre .0 .full, omega (arith, c .before .wide .ensures, c .before .before .before .pre .0 .within (c .before .before .before .args .i) (c .before .before .before .pre .1 .0), c .before .before .before .pre .1 .1))
+clear-requires c κs = (c .before .before .before .pre .0 .full, omega (arith, c .before .wide .ensures, c .before .before .before .pre .0 .within (c .before .before .before .args .i) (c .before .before .before .pre .1 .0), c .before .before .before .pre .1 .1))
 
-cast-r : tie.Need-cast-r
-cast-r c =
-    omega (arith, c .before .before .wide .ensures, c .before .before .before .before .pre .0 .within (c .before .before .before .before .args .i) (c .before .before .before .before .pre .1 .0))
+cast-counts : tie.Need-cast-counts
+cast-counts c = omega (arith, c .before .before .wide .ensures, c .before .before .before .before .pre .0 .within (c .before .before .before .before .args .i) (c .before .before .before .before .pre .1 .0))
 
-element-write-r : tie.Need-element-write-r
-element-write-r c = search needs
+element-write-counts : tie.Need-element-write-counts
+element-write-counts c = search needs
 
 returns : tie.Need-returns
-returns c =
-    becomes-dropped (c .before .before .before .before .args .t1) (c .before .before .before .before .pre .0) (c .before .before .before .before .args .i) (c .before .before .before .before .pre .1 .0) (c .before .before .before .before .args .n) (c .before .before .before .before .pre .1 .1) (c .before .before .wide .result) (c .before .before .wide .ensures) _ (c .clear .ensures)
+returns c = record { becomes = λ cells foundation. becomes-dropped (record { cells = cells; foundation = foundation; counts = c .before .before .before .before .args .counts .now; tableau = c .before .before .before .before .args .tableau .now }) (c .before .before .before .before .pre .0) (c .before .before .before .before .args .i) (c .before .before .before .before .pre .1 .0) (c .before .before .before .before .args .n) (c .before .before .before .before .pre .1 .1) (c .before .before .wide .result) (c .before .before .wide .ensures) _ (c .clear .ensures) }
 
 pub drop-top-spec : {M : Type 1} → statement M
 drop-top-spec =
@@ -46,6 +42,6 @@ drop-top-spec =
     mul-first
     add-at
     clear-requires
-    cast-r
-    element-write-r
+    cast-counts
+    element-write-counts
     returns)

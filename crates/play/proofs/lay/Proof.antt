@@ -16,18 +16,17 @@ wide-requires c κs = search needs
 add-at : tie.Need-add-at
 add-at c = search needs
 
-element-write-r : tie.Need-element-write-r
-element-write-r c = search needs
+element-write-tableau : tie.Need-element-write-tableau
+element-write-tableau c = search needs
 
-add-r : tie.Need-add-r
-add-r c = search needs
+add-counts : tie.Need-add-counts
+add-counts c = search needs
 
-element-write-r-2 : tie.Need-element-write-r-2
-element-write-r-2 c = search needs
+element-write-counts : tie.Need-element-write-counts
+element-write-counts c = search needs
 
 returns : tie.Need-returns
-returns c =
-    becomes-laid (c .before .before .args .t1) (c .before .before .pre .0) (c .before .before .args .i) (c .before .before .pre .1 .0) (c .before .before .pre .1 .1 .0) (c .before .before .args .code) (c .before .before .pre .1 .1 .1) (c .wide .result) (c .wide .ensures)
+returns c = record { becomes = λ cells foundation. becomes-laid (record { cells = cells; foundation = foundation; counts = c .before .before .args .counts .now; tableau = c .before .before .args .tableau .now }) (c .before .before .pre .0) (c .before .before .args .i) (c .before .before .pre .1 .0) (c .before .before .pre .1 .1 .0) (c .before .before .args .code) (c .before .before .pre .1 .1 .1) (c .wide .result) (c .wide .ensures) }
 
 pub lay-spec : {M : Type 1} → statement M
 lay-spec =
@@ -37,7 +36,7 @@ lay-spec =
     mul-first
     wide-requires
     add-at
-    element-write-r
-    add-r
-    element-write-r-2
+    element-write-tableau
+    add-counts
+    element-write-counts
     returns)

@@ -1,12 +1,8 @@
 -- What `leave_home` leaves to be shown: the suit's own foundation.
-use mathlib.Core.Path.{ap, _∙_, subst}
+use mathlib.Core.Path.{ap, _∙_}
 use Prim.Native.Nat.{ℕ, _-_}
 use native.Mathlib.Omega.{arith}
-use lib.ListN.{getD}
-use Rattle.board.specs.Record.{shown}
-use Rattle.play.specs.Change.{Becomes}
-use Rattle.moves.specs.Move.{home}
-use Rattle.moves.specs.Play.{put}
+use lib.ListN.{getD, set}
 use Rattle.card.proofs.Codes.{suit-below}
 use borrow.Author.Needs.{needs}
 use Rattle.play.proofs.leave_home.Statement.{statement}
@@ -19,23 +15,16 @@ wide-requires : tie.Need-wide-requires
 wide-requires c κs = search needs
 
 element-copy-out-n : tie.Need-element-copy-out-n
-element-copy-out-n c =
-    omega (arith, c .wide .ensures, c .before .number .ensures, suit-below (c .before .before .args .suit), c .before .before .pre .1 .0 .four)
+element-copy-out-n c = omega (arith, c .wide .ensures, c .before .number .ensures, suit-below (c .before .before .args .suit), c .before .before .pre .0 .four)
 
-sub-set-home : tie.Need-sub-set-home
-sub-set-home c =
-    omega (arith, c .before .before .before .pre .1 .1, ap (λ (k : ℕ). getD (c .before .before .before .args .t1 .foundation) k 0) (c .before .wide .ensures ∙ c .before .before .number .ensures))
+sub-foundation : tie.Need-sub-foundation
+sub-foundation c = omega (arith, c .before .before .before .pre .1, ap (λ (k : ℕ). getD (c .before .before .before .args .foundation .now) k 0) (c .before .wide .ensures ∙ c .before .before .number .ensures))
 
-set-home-requires : tie.Need-set-home-requires
-set-home-requires c κs =
-    (c .before .before .before .pre .0, (c .before .before .before .pre .1 .0 .four, omega (arith, c .before .wide .ensures, c .before .before .number .ensures, suit-below (c .before .before .before .args .suit))))
+element-write-foundation : tie.Need-element-write-foundation
+element-write-foundation c = omega (arith, c .before .wide .ensures, c .before .before .number .ensures, suit-below (c .before .before .before .args .suit))
 
 returns : tie.Need-returns
-returns c =
-    λ l e.
-    let q = c .before .before .wide .ensures ∙ c .before .before .before .number .ensures in
-    subst (λ (k : ℕ). Becomes (c .set-home .result) (put (shown (c .before .before .before .before .args .t1)) (home k) l)) q
-    (c .set-home .ensures l (ap (λ (k : ℕ). getD (c .before .before .before .before .args .t1 .foundation) k 0 - 1) q ∙ e))
+returns c = ap (λ (k : ℕ). set (c .before .before .before .args .foundation .now) k (getD (c .before .before .before .args .foundation .now) k 0 - 1)) (c .before .wide .ensures ∙ c .before .before .number .ensures)
 
 pub leave-home-spec : {M : Type 1} → statement M
 leave-home-spec =
@@ -44,6 +33,6 @@ leave-home-spec =
     number-requires
     wide-requires
     element-copy-out-n
-    sub-set-home
-    set-home-requires
+    sub-foundation
+    element-write-foundation
     returns)
