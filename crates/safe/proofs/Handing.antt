@@ -27,7 +27,7 @@ use Rattle.replay.proofs.Stepping.{became, sound-after}
 use Rattle.replay.proofs.Legal.{after-none, after-next}
 use Rattle.safe.specs.Safe.{safe, firstSafe}
 use Rattle.safe.specs.Chain.{chainOf, chain}
-use Rattle.safe.specs.Asked.{safeAsked, Chains}
+use Rattle.safe.specs.Asked.{safeAsked, Runs, Chains}
 use Rattle.safe.specs.declared.SafeMove.the-variants.{Is, NoMove}
 use Rattle.safe.specs.declared.Chained.{Chained}
 use Rattle.safe.proofs.Safety.{safe-said, safe-allowed}
@@ -70,21 +70,24 @@ module _ {b now : Board} {moves : ℕ} (r : Chaining b now moves) where
           ∙ chain-next (52 - (moves + 1)) (shown now) e
           ∙ ap (λ (t : Table). m ∷ chainOf (52 - (moves + 1)) t) (sym (d .shows))
 
-  done : chainOf (52 - moves) (shown now) ≡ [] → Chains fine b (record { said = WellFormed; moves = moves; board = now })
+  done : chainOf (52 - moves) (shown now) ≡ [] → Runs b now moves
   done e =
       record {
-        said = refl;
-        moves = let a = r .many in let l = ap length e in omega arith;
-        board = sym (ap boardOf (r .left ∙ ap (afterMoves (shown now)) e ∙ after-none (shown now)) ∙ record-of-shown now (r .sound .inColumns));
+        many = let a = r .many in let l = ap length e in omega arith;
+        ends = sym (ap boardOf (r .left ∙ ap (afterMoves (shown now)) e ∙ after-none (shown now)) ∙ record-of-shown now (r .sound .inColumns));
+        sound = r .sound;
       }
 
-  pub chaining-stop : firstSafe (shown now) ≡ NoMove → Chains fine b (record { said = WellFormed; moves = moves; board = now })
+  pub chaining-stop : firstSafe (shown now) ≡ NoMove → Runs b now moves
   chaining-stop e = done (chain-stops (52 - moves) (shown now) e)
 
-  pub chaining-full : 52 ≤ moves → Chains fine b (record { said = WellFormed; moves = moves; board = now })
+  pub chaining-full : 52 ≤ moves → Runs b now moves
   chaining-full h = done (ap (λ (k : ℕ). chainOf k (shown now)) (let q : 52 - moves ≡ 0 = omega arith in q) ∙ chain-none (shown now))
 
 -- ---- what is handed back
+
+pub chains-played : {b after : Board} {moves : ℕ} → Runs b after moves → Chains fine b (record { said = WellFormed; moves = moves; board = after })
+chains-played r = record { said = refl; moves = r .many; board = r .ends }
 
 module _ (b : Board) (x : ℕ) {e : Examined} (p : examinedTold e ≡ examined b) (q : e ≡ WellFormed) {ok : Bool} (k : ok ≡ isCard x) where
   on-card : {t : Bool} → ok ≡ t → unless t 30 (given (safe (b .foundation) x)) ≡ safeAsked b x

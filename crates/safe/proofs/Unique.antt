@@ -7,7 +7,7 @@ use Rattle.board.specs.Judged.{Verdict}
 use Rattle.board.specs.declared.Board.{Board}
 use Rattle.board.specs.declared.Examined.{Examined}
 use Rattle.board.proofs.Unique.{whyOf, why-law, examined-once}
-use Rattle.safe.specs.Asked.{firstTold, Chains}
+use Rattle.safe.specs.Asked.{firstTold, Runs, Chains}
 use Rattle.safe.specs.declared.SafeMove.{SafeMove}
 use Rattle.safe.specs.declared.SafeAnswer.{SafeAnswer}
 use Rattle.safe.specs.declared.SafeAnswer.the-variants.{First, Refused}
@@ -25,6 +25,10 @@ law (Refused w) = ap Refused (why-law w)
 -- of `first_safe_move`
 pub first-once : {a : Answer SafeMove} {r s : SafeAnswer} → firstTold r ≡ a → firstTold s ≡ a → r ≡ s
 first-once = told-once firstTold back law
+
+-- of `chain_to`
+pub runs-once : {b c c′ : Board} {n n′ : ℕ} → Runs b c n → Runs b c′ n′ → (c ≡ c′) × (n ≡ n′)
+runs-once h k = (h .ends ∙ sym (k .ends), h .many ∙ sym (k .many))
 
 -- of `chain_at` and `safe_chain`
 pub chain-once : {v : Verdict} {b : Board} {r s : Chained} → Chains v b r → Chains v b s → r ≡ s

@@ -8,6 +8,7 @@ use Rattle.card.specs.Card.{isCard}
 use Rattle.board.specs.Judged.{Verdict, after}
 use Rattle.board.specs.Record.{examined, shown, boardOf}
 use Rattle.board.specs.Refusal.{numberOf, examinedTold}
+use Rattle.board.specs.Inner.{Sound}
 use Rattle.board.specs.declared.Board.{Board}
 use Rattle.safe.specs.Safe.{safe, firstSafe}
 use Rattle.replay.specs.Played.{afterMoves}
@@ -26,6 +27,12 @@ firstAsked b = after (examined b) (given (firstSafe (shown b)))
 abbrev pub firstTold : SafeAnswer → Answer SafeMove
 firstTold (First m) = given m
 firstTold (Refused why) = refused (numberOf why)
+
+-- the chain was played: the number of its moves, and the board after it
+pub record Runs (b after : Board) (moves : ℕ) : Type 0 where
+  pub many : moves ≡ length (chain (shown b))
+  pub ends : after ≡ boardOf (afterMoves (shown b) (chain (shown b)))
+  pub sound : Sound after
 
 -- the chain was played on b: the number of its moves and the board after it, or the given board beside a refusal
 abbrev pub chainMoves : Verdict → Board → ℕ

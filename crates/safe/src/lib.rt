@@ -14,7 +14,7 @@ ghost use Rattle.rules.specs.Fit.{isRed, homeTakes};
 ghost use Rattle.rules.specs.Asked.{yesTold};
 ghost use Rattle.safe.specs.Safe.{needed, safe, firstSafe};
 ghost use Rattle.safe.specs.Inner.{cardsAt, homeMove};
-ghost use Rattle.safe.specs.Asked.{safeAsked, firstAsked, firstTold, Chains};
+ghost use Rattle.safe.specs.Asked.{safeAsked, firstAsked, firstTold, Runs, Chains};
 use board::Board;
 use board::Examined;
 use board::Refusal;
@@ -164,26 +164,44 @@ pub fn first_safe_at<'a>(
     }
 }
 
+// The safe chain, played on a well formed board that lies in four arrays: how many moves it had.
+pub fn chain_to(
+    cells: &mut [u8; 4],
+    foundation: &mut [u8; 4],
+    counts: &mut [u8; 8],
+    tableau: &mut [u8; 416],
+) -> usize
+    requires { ⌜ Sound (record { cells = now cells; foundation = now foundation; counts = now counts; tableau = now tableau }) ⌝ }
+    ensures { λ r. ⌜ Runs (record { cells = now (cells .entry); foundation = now (foundation .entry); counts = now (counts .entry); tableau = now (tableau .entry) }) (record { cells = now (cells .exit); foundation = now (foundation .exit); counts = now (counts .exit); tableau = now (tableau .exit) }) r ⌝ }
+{
+    let mut moves = 0;
+    while moves < 52 {
+        let SafeMove::Is(m) = first_safe_at(cells, foundation, counts, tableau) else {
+            break;
+        };
+        play::apply_to(m, cells, foundation, counts, tableau);
+        moves += 1;
+    }
+    moves
+}
+
 // The safe chain on a well formed board.
 pub fn chain_at(b: Board) -> Chained
     requires { ⌜ Sound b ⌝ }
     ensures { λ r. ⌜ Chains fine b r ⌝ }
     ensures { λ r. ⌜ Sound (r .board) ⌝ }
 {
-    let mut board = b;
-    let mut moves = 0;
-    while moves < 52 {
-        let SafeMove::Is(m) = first_safe_at(
-            &board.cells,
-            &board.foundation,
-            &board.counts,
-            &board.tableau,
-        ) else {
-            break;
-        };
-        board = play::apply_at(board, m);
-        moves += 1;
-    }
+    let mut cells = b.cells;
+    let mut foundation = b.foundation;
+    let mut counts = b.counts;
+    let mut tableau = b.tableau;
+    let moves = chain_to(&mut cells, &mut foundation, &mut counts, &mut tableau);
+    let board = Board {
+        cells,
+        foundation,
+        counts,
+        tableau,
+    };
     Chained {
         said: Examined::WellFormed,
         moves,
