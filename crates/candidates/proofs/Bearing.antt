@@ -1,10 +1,10 @@
 -- A child of a fair table: its moves are legal, there is at least one, and its table is fair.
 use mathlib.Core.Path.{_≡_, refl, sym, ap, _∙_, subst}
-use Prim.Native.Nat.{_+_, _≤_}
+use mathlib.Core.List.{List, [], _∷_}
+use Prim.Native.Nat.{ℕ, _+_, _≤_}
 use native.Mathlib.Omega.{arith}
 use lib.ListN.{length}
 use Rattle.board.specs.Table.{Table}
-use Rattle.board.specs.Judged.{fine}
 use Rattle.board.specs.Record.{shown, boardOf}
 use Rattle.board.specs.Inner.{Sound}
 use Rattle.board.specs.declared.Board.{Board}
@@ -15,10 +15,9 @@ use Rattle.play.specs.Change.{Becomes, Ready}
 use Rattle.play.proofs.Playing.{shows-fair}
 use Rattle.replay.specs.Played.{afterMoves, Legal}
 use Rattle.replay.proofs.Stepping.{became, sound-after}
-use Rattle.replay.proofs.Legal.{after-next, legal-fair}
+use Rattle.replay.proofs.Legal.{after-none, after-next, legal-fair}
 use Rattle.safe.specs.Chain.{chain}
-use Rattle.safe.specs.Asked.{Chains}
-use Rattle.safe.specs.declared.Chained.{Chained}
+use Rattle.safe.specs.Asked.{Runs}
 use Rattle.safe.proofs.Chaining.{chain-legal, chain-most}
 use Rattle.candidates.specs.Children.{childMoves, childTable}
 use Rattle.candidates.specs.Inner.{Playable, Bears}
@@ -40,21 +39,32 @@ pub child-some : (t : Table) (m : Move) → 1 ≤ length (childMoves t m)
 unfolding childMoves
 child-some t m = omega arith
 
+no-moves : (ms : List Move) → length ms ≡ 0 → ms ≡ []
+no-moves [] e = refl
+no-moves (m ∷ ms) e = absurd (let z : ⊥ = omega arith in z)
+
+-- a child of one move has no chain
+pub child-alone : (t : Table) (m : Move) → length (childMoves t m) ≡ 1 → childTable t m ≡ afterMove t m
+unfolding childMoves childTable
+child-alone t m e =
+    let rest = chain (afterMove t m) in
+    after-next t m rest ∙ ap (afterMoves (afterMove t m)) (no-moves rest (omega arith)) ∙ after-none (afterMove t m)
+
 -- ---- in code: the move, and then the chain
 
 module _ {b : Board} {m : Move} (r : Ready b m) {next : Board} (e : Becomes next (afterMove (shown b) m)) where
   pub next-sound : Sound next
   next-sound = subst Sound (became e) (sound-after b (r .sound) m (r .said) (r .allows))
 
-  module _ {c : Chained} (d : Chains fine next c) where
-    pub few-moves : c .moves ≤ 52
-    few-moves = let h = chain-most (shown next) (shows-fair next-sound) in let q = d .moves in omega arith
+  module _ {last : Board} {moves : ℕ} (d : Runs next last moves) where
+    pub few-moves : moves ≤ 52
+    few-moves = let h = chain-most (shown next) (shows-fair next-sound) in let q = d .many in omega arith
 
-    pub bears : Bears b m (c .moves + 1) (c .board)
+    pub bears : Bears b m (moves + 1) last
     unfolding childMoves childTable
     bears =
         record {
-          many = let q = d .moves in let s = ap (λ (t : Table). length (chain t)) (e .shows) in omega arith;
-          becomes = d .board ∙ ap (λ (t : Table). boardOf (afterMoves t (chain t))) (e .shows)
+          many = let q = d .many in let s = ap (λ (t : Table). length (chain t)) (e .shows) in omega arith;
+          becomes = d .ends ∙ ap (λ (t : Table). boardOf (afterMoves t (chain t))) (e .shows)
               ∙ ap boardOf (sym (after-next (shown b) m (chain (afterMove (shown b) m))));
         }

@@ -45,16 +45,41 @@ pub fn candidates_at(b: Board, out: &mut [u8]) -> usize
     ranks::emit(&list, &keys, n, out)
 }
 
+// A candidate and the chain after it, played on a board that lies in four arrays: how many moves that is.
+pub fn child_to(
+    m: Move,
+    cells: &mut [u8; 4],
+    foundation: &mut [u8; 4],
+    counts: &mut [u8; 8],
+    tableau: &mut [u8; 416],
+) -> usize
+    requires { ⌜ Ready (record { cells = now cells; foundation = now foundation; counts = now counts; tableau = now tableau }) m ⌝ }
+    ensures { λ r. ⌜ Bears (record { cells = now (cells .entry); foundation = now (foundation .entry); counts = now (counts .entry); tableau = now (tableau .entry) }) m r (record { cells = now (cells .exit); foundation = now (foundation .exit); counts = now (counts .exit); tableau = now (tableau .exit) }) ⌝ }
+    ensures { λ r. ⌜ Sound (record { cells = now (cells .exit); foundation = now (foundation .exit); counts = now (counts .exit); tableau = now (tableau .exit) }) ⌝ }
+{
+    play::apply_to(m, cells, foundation, counts, tableau);
+    let after = safe::chain_to(cells, foundation, counts, tableau);
+    let moves = after + 1;
+    moves
+}
+
 // The child that a candidate makes.
 pub fn child_at(b: Board, m: Move) -> Child
     requires { ⌜ Ready b m ⌝ }
     ensures { λ r. ⌜ Bears b m (r .moves) (r .board) ⌝ }
     ensures { λ r. ⌜ Sound (r .board) ⌝ }
 {
-    let next = play::apply_at(b, m);
-    let after = safe::chain_at(next);
-    let moves = after.moves + 1;
-    let board = after.board;
+    let mut cells = b.cells;
+    let mut foundation = b.foundation;
+    let mut counts = b.counts;
+    let mut tableau = b.tableau;
+    let moves = child_to(m, &mut cells, &mut foundation, &mut counts, &mut tableau);
+    let board = Board {
+        cells,
+        foundation,
+        counts,
+        tableau,
+    };
     Child { moves, board }
 }
 
