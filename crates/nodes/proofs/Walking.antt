@@ -18,13 +18,10 @@ use Rattle.moves.specs.declared.Decoded.the-variants.{Is, Impossible}
 use Rattle.moves.specs.Play.{afterMove}
 use Rattle.play.specs.Change.{Becomes, Ready}
 use Rattle.play.proofs.Playing.{shows-fair}
-use Rattle.replay.specs.Played.{afterMoves}
 use Rattle.replay.proofs.Stepping.{became, fair-laid}
-use Rattle.replay.proofs.Legal.{after-none, after-next}
-use Rattle.safe.specs.Chain.{chain}
 use Rattle.candidates.specs.Children.{childMoves, childTable}
 use Rattle.candidates.specs.Inner.{Bears}
-use Rattle.candidates.proofs.Bearing.{child-fair, next-sound}
+use Rattle.candidates.proofs.Bearing.{child-fair, child-alone, next-sound}
 use Rattle.candidates.proofs.Picking.{told-move, never-impossible}
 use Rattle.nodes.specs.Step.{recordIn, moveIn, costIn, parentAt, stepAt}
 use Rattle.nodes.specs.Line.{stepsTo, tableBy, lineBy, tableTo}
@@ -98,17 +95,6 @@ module _ {words : List ℕ} {n i : ℕ} (l : Linked words n) {old now : List ℕ
       }
 
 -- ---- one step
-
-no-moves : (ms : List Move) → length ms ≡ 0 → ms ≡ []
-no-moves [] e = refl
-no-moves (m ∷ ms) e = absurd (let z : ⊥ = omega arith in z)
-
--- a child of one move has no chain
-child-alone : (t : Table) (m : Move) → length (childMoves t m) ≡ 1 → childTable t m ≡ afterMove t m
-unfolding childMoves childTable
-child-alone t m e =
-    let rest = chain (afterMove t m) in
-    after-next t m rest ∙ ap (afterMoves (afterMove t m)) (no-moves rest (omega arith)) ∙ after-none (afterMove t m)
 
 module _ {b : Board} (s : Sound b) {step : ℕ} (k : Makes (shown b) step) where
   pub step-ready : Ready b (moveIn step)

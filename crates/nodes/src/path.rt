@@ -29,23 +29,31 @@ pub fn climb(nodes: &[u32], n: usize, i: usize, path: &mut [u32]) -> usize
     deep
 }
 
-// One step: the move and the chain after it. A step that costs one move has no chain, and none is looked for.
-fn play_step(b: Board, step: u32, before: usize) -> Board
-    requires { ⌜ Sound b ⌝ }
-    requires { ⌜ Makes (shown b) step ⌝ }
-    requires { ⌜ Costs (shown b) before step ⌝ }
-    ensures { λ r. ⌜ Plays b step r ⌝ }
+// One step on a board that lies in four arrays: the move and the chain after it. A step that costs one move has no chain, and
+// none is looked for.
+fn play_step(
+    step: u32,
+    before: usize,
+    cells: &mut [u8; 4],
+    foundation: &mut [u8; 4],
+    counts: &mut [u8; 8],
+    tableau: &mut [u8; 416],
+)
+    requires { ⌜ Sound (record { cells = now cells; foundation = now foundation; counts = now counts; tableau = now tableau }) ⌝ }
+    requires { ⌜ Makes (shown (record { cells = now cells; foundation = now foundation; counts = now counts; tableau = now tableau })) step ⌝ }
+    requires { ⌜ Costs (shown (record { cells = now cells; foundation = now foundation; counts = now counts; tableau = now tableau })) before step ⌝ }
+    ensures { λ r. ⌜ Plays (record { cells = now (cells .entry); foundation = now (foundation .entry); counts = now (counts .entry); tableau = now (tableau .entry) }) step (record { cells = now (cells .exit); foundation = now (foundation .exit); counts = now (counts .exit); tableau = now (tableau .exit) }) ⌝ }
 {
     let Decoded::Is(m) = words::move_in(step) else {
-        return b;
+        return;
     };
     let cost = words::cost_in(step);
     let spent = cost - before;
     if spent == 1 {
-        return play::apply_at(b, m);
+        play::apply_to(m, cells, foundation, counts, tableau);
+        return;
     }
-    let child = candidates::child_at(b, m);
-    child.board
+    candidates::child_to(m, cells, foundation, counts, tableau);
 }
 
 // The first `deep` steps of a path, the last one first.
@@ -54,16 +62,31 @@ fn play_down(root: Board, path: &[u32], deep: usize) -> Board
     ensures { λ r. ⌜ r ≡ boardOf (tableBy (shown root) (take deep (now (path .entry)))) ⌝ }
     ensures { λ r. ⌜ Sound r ⌝ }
 {
-    let mut board = root;
+    let mut cells = root.cells;
+    let mut foundation = root.foundation;
+    let mut counts = root.counts;
+    let mut tableau = root.tableau;
     let mut cost = 0;
     let mut left = deep;
     while 0 < left {
         left -= 1;
         let step = path[left];
-        board = play_step(board, step, cost);
+        play_step(
+            step,
+            cost,
+            &mut cells,
+            &mut foundation,
+            &mut counts,
+            &mut tableau,
+        );
         cost = words::cost_in(step);
     }
-    board
+    Board {
+        cells,
+        foundation,
+        counts,
+        tableau,
+    }
 }
 
 // The board of a node: the root's, with the steps to the node played on it.

@@ -23,17 +23,17 @@ cost-in-requires c κs = search needs
 sub-spent : tie.Need-sub-spent
 sub-spent c = search needs
 
-apply-at-requires : tie.Need-apply-at-requires
-apply-at-requires c κs = step-goes (c .before .before .before .before .before .before .pre .0) (c .before .before .before .before .before .before .pre .1 .0) (c .before .before .before .before .before .move-in .ensures) (c .before .before .before .m .given .1)
+apply-to-requires : tie.Need-apply-to-requires
+apply-to-requires c κs = step-goes (c .before .before .before .before .before .before .before .before .before .before .pre .0) (c .before .before .before .before .before .before .before .before .before .before .pre .1 .0) (c .before .before .before .before .before .before .before .before .before .move-in .ensures) (c .before .before .before .before .before .before .before .m .given .1)
 
 returns-2 : tie.Need-returns-2
-returns-2 c = step-alone (c .before .before .before .before .before .before .before .pre .0) (c .before .before .before .before .before .before .before .pre .1 .0) (c .before .before .before .before .before .before .move-in .ensures) (c .before .before .before .before .m .given .1) (c .before .before .before .before .before .before .before .pre .1 .1) (c .before .before .cost-in .ensures) (omega (arith, c .before .if1 .taken)) (c .apply-at .ensures)
+returns-2 c = step-alone (c .before .before .before .before .before .before .before .before .before .before .before .pre .0) (c .before .before .before .before .before .before .before .before .before .before .before .pre .1 .0) (c .before .before .before .before .before .before .before .before .before .before .move-in .ensures) (c .before .before .before .before .before .before .before .before .m .given .1) (c .before .before .before .before .before .before .before .before .before .before .before .pre .1 .1) (c .before .before .before .before .before .before .cost-in .ensures) (omega (arith, c .before .before .before .before .before .if1 .taken)) (c .apply-to .ensures)
 
-child-at-requires : tie.Need-child-at-requires
-child-at-requires c κs = step-goes (c .before .before .before .before .before .before .pre .0) (c .before .before .before .before .before .before .pre .1 .0) (c .before .before .before .before .before .move-in .ensures) (c .before .before .before .m .given .1)
+child-to-requires : tie.Need-child-to-requires
+child-to-requires c κs = step-goes (c .before .before .before .before .before .before .before .before .before .before .pre .0) (c .before .before .before .before .before .before .before .before .before .before .pre .1 .0) (c .before .before .before .before .before .before .before .before .before .move-in .ensures) (c .before .before .before .before .before .before .before .m .given .1)
 
 returns-3 : tie.Need-returns-3
-returns-3 c = step-plays (c .before .before .before .before .before .before .before .before .pre .0) (c .before .before .before .before .before .before .before .before .pre .1 .0) (c .before .before .before .before .before .before .before .move-in .ensures) (c .before .before .before .before .before .m .given .1) (c .before .child-at .ensures .0) (c .before .child-at .ensures .1)
+returns-3 c = step-plays (c .before .before .before .before .before .before .before .before .before .before .before .pre .0) (c .before .before .before .before .before .before .before .before .before .before .before .pre .1 .0) (c .before .before .before .before .before .before .before .before .before .before .move-in .ensures) (c .before .before .before .before .before .before .before .before .m .given .1) (c .child-to .ensures .0) (c .child-to .ensures .1)
 
 pub play-step-spec : {M : Type 1} → statement M
 play-step-spec =
@@ -45,7 +45,7 @@ play-step-spec =
     returns
     cost-in-requires
     sub-spent
-    apply-at-requires
+    apply-to-requires
     returns-2
-    child-at-requires
+    child-to-requires
     returns-3)
