@@ -1,23 +1,31 @@
--- P1 and P3 to P8 for the code: a call of `solve` that keeps its promise answers each hand that is judged as the table says.
+-- P1 to P8 for the code: a call of `solve`, of `heuristic_of` or of `progress_of` that keeps its promise answers each hand as the table
+-- says.
 use mathlib.Core.Path.{_≡_, sym, ap, _∙_, subst}
 use mathlib.Core.Bool.{Bool, true, _&&_}
 use mathlib.Core.List.{List, [], _∷_}
 use mathlib.Core.Logic.{inl, inr}
 use Prim.Native.Nat.{ℕ}
+use lib.IntN.{ℤ}
 use borrow.Author.Tests.{eqb-true}
 use lib.Dec.{eqb}
+use Rattle.card.specs.Answer.{given}
 use Rattle.card.proofs.Words.{first, second}
 use Rattle.board.specs.Table.{Table}
-use Rattle.board.specs.Record.{shown}
+use Rattle.board.specs.Judged.{Verdict, fine, after}
+use Rattle.board.specs.Record.{shown, examined}
 use Rattle.board.specs.declared.Board.{Board}
+use Rattle.score.specs.Features.{featuresOf}
+use Rattle.score.specs.Scores.{heuristic, progress}
+use Rattle.score.specs.Asked.{scoreTold, heuristicAsked, progressAsked}
+use Rattle.score.specs.declared.ScoreAnswer.{ScoreAnswer}
 use Rattle.search.specs.Game.{among}
 use Rattle.search.specs.Freecell.{freecell, judge}
 use Rattle.search.specs.Solve.{Answer, Perhaps}
 use Rattle.solver.specs.Told.{Call, capacity, Accepted}
 use Rattle.solver.proofs.Calls.{sought, gives}
-use Rattle.known_hands.specs.Hands.{Hand, Question, judging, sameList, sameAnswer, answered, forEach, holds, allHold, hands}
+use Rattle.known_hands.specs.Hands.{Hand, Question, scores, judging, sameScore, sameList, sameAnswer, answered, forEach, holds, allHold, hands}
 use Rattle.known_hands.specs.Boards.{isBoard}
-use Rattle.known_hands.specs.Answered.{Answers}
+use Rattle.known_hands.specs.Answered.{Answers, Scored}
 use Rattle.known_hands.proofs.Known.{known-hands}
 
 -- ---- what the table claims of a hand
@@ -73,3 +81,27 @@ code-hands h i budget cap flags n pops list q {b} c ok table spent room flag =
       said = list-is (sought c) n pops list k;
       list = g .list;
     }
+
+-- ---- what the scores are
+
+module _ (b : Board) (ok : examined b ≡ fine) where
+  heuristic-told : heuristicAsked b ≡ given (heuristic (featuresOf (shown b)))
+  unfolding heuristicAsked
+  heuristic-told = ap (λ (v : Verdict). after v (given (heuristic (featuresOf (shown b))))) ok
+
+  progress-told : progressAsked b ≡ given (progress (featuresOf (shown b)))
+  unfolding progressAsked
+  progress-told = ap (λ (v : Verdict). after v (given (progress (featuresOf (shown b))))) ok
+
+  -- for every hand of the table that asks for scores, and every well-formed board that shows it
+  pub code-scores : (h : Hand) → among h hands → (x y : ℤ) → h .question ≡ scores x y → shown b ≡ h .board → (r s : ScoreAnswer) → scoreTold r ≡ heuristicAsked b
+      → scoreTold s ≡ progressAsked b → Scored r x × Scored s y
+  code-scores h i x y q table r s e f =
+      let claim : (sameScore (heuristic (featuresOf (shown b))) x && sameScore (progress (featuresOf (shown b))) y) ≡ true =
+      subst (λ (t : Table). (sameScore (heuristic (featuresOf t)) x && sameScore (progress (featuresOf t)) y) ≡ true) (sym table)
+      (subst (λ (z : Question). answered (h .board) z ≡ true) q (asked h (one-holds h hands i known-hands))) in
+      let one = first (sameScore (heuristic (featuresOf (shown b))) x) (sameScore (progress (featuresOf (shown b))) y) claim in
+      let other = second (sameScore (heuristic (featuresOf (shown b))) x) (sameScore (progress (featuresOf (shown b))) y) claim in (
+        record { value = heuristic (featuresOf (shown b)); told = e ∙ heuristic-told; same = one },
+        record { value = progress (featuresOf (shown b)); told = f ∙ progress-told; same = other },
+      )

@@ -1,15 +1,19 @@
--- A call of the search is answered as a hand says.
+-- A call of the search, and a score that was asked for, are answered as a hand says.
 use mathlib.Core.Path.{_≡_}
 use mathlib.Core.Bool.{true}
 use mathlib.Core.List.{List}
 use Prim.Native.Nat.{ℕ}
+use lib.IntN.{ℤ}
+use Rattle.card.specs.Answer.{given}
 use Rattle.board.specs.declared.Board.{Board}
 use Rattle.moves.specs.declared.Move.{Move}
 use Rattle.generate.specs.Asked.{written}
+use Rattle.score.specs.Asked.{scoreTold}
+use Rattle.score.specs.declared.ScoreAnswer.{ScoreAnswer}
 use Rattle.search.specs.Solve.{Perhaps}
 use Rattle.solver.specs.Searched.{movesOf}
 use Rattle.solver.specs.Told.{Call, number}
-use Rattle.known_hands.specs.Hands.{sameList}
+use Rattle.known_hands.specs.Hands.{sameScore, sameList}
 
 -- number n, p pops, and a list with the bytes l at the start of the list buffer
 pub record Answers {b : Board} (c : Call b) (n p : ℕ) (l : Perhaps (List ℕ)) : Type 0 where
@@ -18,3 +22,9 @@ pub record Answers {b : Board} (c : Call b) (n p : ℕ) (l : Perhaps (List ℕ))
   pub moves : Perhaps (List Move)
   pub said : sameList moves l ≡ true
   pub list : c .listAfter ≡ written (c .list) 0 (movesOf moves)
+
+-- a score is told, and it is x
+pub record Scored (r : ScoreAnswer) (x : ℤ) : Type 0 where
+  pub value : ℤ
+  pub told : scoreTold r ≡ given value
+  pub same : sameScore value x ≡ true
