@@ -7,14 +7,13 @@ use native.Mathlib.Omega.{arith}
 use native.Mathlib.Decide.{ℕ-discrete}
 use borrow.Author.Tests.{eq-eqb, ne-eqb}
 use lib.Dec.{eqb}
-use lib.ListN.{length, getD, replicate, length-append}
-use Rattle.card.specs.Words.{all, occurs, listed, concat}
+use lib.ListN.{length, getD, length-append}
+use Rattle.card.specs.Words.{all, listed, concat}
 use Rattle.card.specs.Card.{isCard}
-use Rattle.card.specs.Pack.{cardAt}
 use Rattle.card.proofs.Words.{both, first, second, all-append, all-by, all-concat, every-by, length-listed, getD-listed}
 use Rattle.card.proofs.Codes.{code-in-suit}
 use Rattle.board.specs.Table.{Table, pile, piles, held, cardsOn}
-use Rattle.board.specs.Judged.{fine, isCell, onlyCards, noneTwice, judged, wellFormed}
+use Rattle.board.specs.Judged.{fine, isCell, onlyCards, noneTwice, judged}
 use Rattle.board.specs.Inner.{GoodPiles}
 use Rattle.board.proofs.Tables.{cell-is-card}
 use Rattle.board.proofs.Soundness.{passed}
@@ -73,10 +72,3 @@ fits t four g eight e =
       eight = eight;
       short = λ i h. let a = at-most-52 (cardsOn t) (cards-on t g (o .0)) (w .0) in let c = column-among t i in omega arith;
     }
-
--- a table with cells and foundations empty is well formed if its columns hold each card once
-pub bare-fair : (columns : List (List ℕ)) → all isCard (concat columns) ≡ true → ((k : ℕ) → k < 52 → occurs (cardAt k) (concat columns) ≡ 1)
-    → wellFormed (record { cells = replicate 4 255; foundation = replicate 4 0; columns = columns }) ≡ true
-unfolding wellFormed onlyCards cardsOn piles pile held listed concat isCell all
-bare-fair columns cards once =
-    both cards (every-by (λ k. eqb (occurs (cardAt k) (concat columns)) 1) 52 (λ k h. eq-eqb (occurs (cardAt k) (concat columns)) 1 (once k h)))

@@ -7,4 +7,5 @@ pub mod Soundness
 pub mod Counting
 pub mod Records
 pub mod Fitting
+pub mod Fair
 pub mod Unique

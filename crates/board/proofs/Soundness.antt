@@ -4,17 +4,15 @@ use mathlib.Core.Bool.{Bool, true, false}
 use mathlib.Core.List.{List}
 use Prim.Native.Nat.{ℕ, _+_, _-_, _*_, _<_, _≤_}
 use native.Mathlib.Omega.{arith}
-use borrow.Author.Tests.{le-leb, eq-eqb, eqb-true}
-use lib.Dec.{eqb}
+use borrow.Author.Tests.{le-leb}
 use lib.ListN.{length, getD, take, drop, length-take, length-drop}
 use lib.Seq.{getD-take, getD-drop}
-use Rattle.card.specs.Words.{all, occurs, listed, concat}
+use Rattle.card.specs.Words.{all, listed, concat}
 use Rattle.card.specs.Answer.{unless}
 use Rattle.card.specs.Card.{isCard}
-use Rattle.card.specs.Pack.{cardAt}
 use Rattle.card.proofs.Words.{both, first, second, every-at, every-by, all-at, all-by, all-concat}
-use Rattle.board.specs.Table.{Table, cardsOn}
-use Rattle.board.specs.Judged.{Verdict, fine, isCell, onlyCards, noneTwice, noneMissing, judged, wellFormed}
+use Rattle.board.specs.Table.{cardsOn}
+use Rattle.board.specs.Judged.{Verdict, fine, isCell, onlyCards, noneTwice, noneMissing, judged}
 use Rattle.board.specs.Record.{room, atMost, isZero, columnAt, spareAt, shown, shapely, examined}
 use Rattle.board.specs.Inner.{GoodPiles, GoodColumns, Sound, Sized}
 use Rattle.board.specs.declared.Board.{Board}
@@ -159,26 +157,3 @@ module _ {b : Board} (s : Sound b) where
 
   pub sound-sized : Sized b
   sound-sized = record { four = s .inCells .four; piles = s .inPiles .four; eight = s .inColumns .eight; full = s .inColumns .full }
-
--- ---- well-formed in one breath: nothing but cards, each of the 52 exactly once
-
-pub fair : (t : Table) → wellFormed t ≡ true → judged t ≡ fine
-unfolding judged wellFormed
-fair t e =
-    let each = every-at (λ k. eqb (occurs (cardAt k) (cardsOn t)) 1) 52 (second (onlyCards t) _ e) in
-    rw (
-      first (onlyCards t) _ e,
-      none-twice (cardsOn t) (λ k h. let o = eqb-true (occurs (cardAt k) (cardsOn t)) 1 (each k h) in omega arith),
-      none-missing (cardsOn t) (λ k h. let o = eqb-true (occurs (cardAt k) (cardsOn t)) 1 (each k h) in omega arith),
-    )
-
-pub fine-fair : (t : Table) → judged t ≡ fine → wellFormed t ≡ true
-unfolding judged wellFormed
-fine-fair t e =
-    let o = passed (onlyCards t) 13 _ e in
-    let w = passed (noneTwice (cardsOn t)) 14 _ (o .1) in
-    let m = passed (noneMissing (cardsOn t)) 15 _ (w .1) in
-    both (o .0)
-    (every-by (λ k. eqb (occurs (cardAt k) (cardsOn t)) 1) 52
-    (λ k h. eq-eqb (occurs (cardAt k) (cardsOn t)) 1
-    (let a = none-twice-at (cardsOn t) (w .0) k h in let c = none-missing-at (cardsOn t) (m .0) k h in omega arith)))

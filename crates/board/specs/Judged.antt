@@ -40,7 +40,3 @@ noneMissing l = every 52 (λ k. leb 1 (occurs (cardAt k) l))
 -- 13: a code that is no card's; 14: a card twice; 15: a card missing
 unfoldable pub judged : Table → Verdict
 judged t = unless (onlyCards t) 13 (unless (noneTwice (cardsOn t)) 14 (unless (noneMissing (cardsOn t)) 15 fine))
-
--- well-formed: nothing but cards, each of the 52 exactly once
-unfoldable pub wellFormed : Table → Bool
-wellFormed t = onlyCards t && every 52 (λ k. eqb (occurs (cardAt k) (cardsOn t)) 1)

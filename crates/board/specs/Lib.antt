@@ -2,5 +2,6 @@
 pub mod Table
 pub mod Judged
 pub mod Record
+pub mod Fair
 pub mod Refusal
 pub mod Inner

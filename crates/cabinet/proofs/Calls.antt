@@ -38,7 +38,7 @@ unfolding saidBy
 said-again n (inl h) = said-small n h
 said-again n (inr e) = ap (λ (k : ℕ). saidNumber (saidBy k)) e ∙ sym e
 
-is-answer : (n : ℕ) → IsAnswer n → isAnswer n ≡ true
+pub is-answer : (n : ℕ) → IsAnswer n → isAnswer n ≡ true
 is-answer n (inl h) = ap (λ (x : Bool). x || eqb n 23) (le-leb n 4 h)
 is-answer n (inr e) = ap isAnswer e
 

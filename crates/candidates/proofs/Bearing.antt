@@ -8,11 +8,12 @@ use Rattle.board.specs.Table.{Table}
 use Rattle.board.specs.Record.{shown, boardOf}
 use Rattle.board.specs.Inner.{Sound}
 use Rattle.board.specs.declared.Board.{Board}
+use Rattle.board.specs.Fair.{Fair}
+use Rattle.board.proofs.Fair.{shows-fair}
 use Rattle.moves.specs.Play.{afterMove}
 use Rattle.moves.specs.declared.Move.{Move}
-use Rattle.moves.proofs.Fairness.{Fair, fair-after}
+use Rattle.moves.proofs.Fairness.{fair-after}
 use Rattle.play.specs.Change.{Becomes, Ready}
-use Rattle.play.proofs.Playing.{shows-fair}
 use Rattle.replay.specs.Played.{afterMoves, Legal}
 use Rattle.replay.proofs.Stepping.{became, sound-after}
 use Rattle.replay.proofs.Legal.{after-none, after-next, legal-fair}

@@ -9,9 +9,9 @@ use lib.Dec.{leb}
 use lib.Signed.{leZ}
 use lib.ListN.{length, length-append}
 use Rattle.board.specs.Table.{Table}
+use Rattle.board.specs.Fair.{Fair}
 use Rattle.questions.specs.Questions.{homeCount}
 use Rattle.moves.specs.declared.Move.{Move}
-use Rattle.moves.proofs.Fairness.{Fair}
 use Rattle.generate.specs.Found.{found, isIn}
 use Rattle.generate.specs.declared.Way.{Way}
 use Rattle.generate.specs.declared.Way.the-variants.{ColumnToColumn, ColumnToHome, ColumnToCell, CellToColumn, CellToHome, HomeToColumn}

@@ -14,6 +14,7 @@ use Rattle.card.specs.declared.Card.{Card}
 use Rattle.card.proofs.Words.{all-at}
 use Rattle.card.proofs.Codes.{suit-below, suit-at-number, card-code, value-of-card}
 use Rattle.board.specs.Table.{Table}
+use Rattle.board.specs.Fair.{Fair}
 use Rattle.rules.proofs.Laying.{run-13}
 use Rattle.moves.specs.Move.{Place, column, from, count, card, sayable}
 use Rattle.moves.specs.Play.{there, lastOf, hand, allowed}
@@ -21,7 +22,7 @@ use Rattle.moves.specs.declared.Move.{Move}
 use Rattle.moves.specs.declared.Move.the-variants.{TableauToTableau, TableauToFoundation, TableauToFreeCell, FreeCellToTableau, FreeCellToFoundation, FoundationToTableau}
 use Rattle.moves.proofs.Records.{said-from, said-to, said-count}
 use Rattle.moves.proofs.Allowing.{allowed-is, last-first}
-use Rattle.moves.proofs.Fairness.{Fair, fair-cards}
+use Rattle.moves.proofs.Fairness.{fair-cards}
 use Rattle.generate.specs.Found.{sourceCount, source, targetCount, lengthCount, moveFrom, offered, ifAllowed, foundBetween, foundFrom, found, wayOf, isIn}
 use Rattle.generate.specs.declared.Way.{Way}
 use Rattle.generate.specs.declared.Way.the-variants.{ColumnToColumn, ColumnToHome, ColumnToCell, CellToColumn, CellToHome, HomeToColumn}

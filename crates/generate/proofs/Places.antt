@@ -16,6 +16,7 @@ use Rattle.board.specs.Table.{pile, held}
 use Rattle.board.specs.Record.{columnAt, shown}
 use Rattle.board.specs.Inner.{Sound}
 use Rattle.board.specs.declared.Board.{Board}
+use Rattle.board.proofs.Fair.{shows-fair}
 use Rattle.questions.specs.Questions.{topOf, cellOf}
 use Rattle.questions.specs.declared.Top.{Top}
 use Rattle.questions.specs.declared.Top.the-variants.{Is, Empty}
@@ -24,7 +25,6 @@ use Rattle.rules.specs.Fit.{fitsOn, homeTakes}
 use Rattle.moves.specs.Move.{Place, column, cell, home, isPlace}
 use Rattle.moves.specs.Play.{there, takes}
 use Rattle.moves.proofs.Fairness.{fair-cards}
-use Rattle.play.proofs.Playing.{shows-fair}
 use Rattle.play.proofs.Ending.{shown-takes-column, shown-takes-home, shown-takes-cell}
 use Rattle.generate.specs.Found.{sourceCount, targetCount, source}
 use Rattle.generate.specs.declared.Way.{Way}

@@ -6,7 +6,7 @@ use Prim.Native.Nat.{ℕ, zero, suc, _+_, _*_, _<_, _≤_}
 use native.Mathlib.Omega.{arith}
 use borrow.Author.Tests.{leb-true, eqb-true}
 use lib.Dec.{leb, eqb}
-use lib.ListN.{length, getD, take, drop, replicate, length-take, length-drop, getD-replicate}
+use lib.ListN.{length, getD, take, drop, length-take, length-drop}
 use Rattle.card.specs.Words.{all, occurs, listed, concat, sum}
 use Rattle.card.specs.Answer.{Answer, given, refused, unless}
 use Rattle.card.specs.Card.{isCard}
@@ -15,15 +15,17 @@ use Rattle.card.proofs.Words.{all-at, all-by, all-concat, every-by, length-list
 use Rattle.card.proofs.Sums.{sum-same}
 use Rattle.card.proofs.Answers.{given-by}
 use Rattle.board.specs.Table.{Table}
-use Rattle.board.specs.Judged.{Verdict, fine, after, noneTwice, judged, wellFormed}
+use Rattle.board.specs.Judged.{Verdict, fine, after, noneTwice, judged}
 use Rattle.board.specs.Record.{atMost, examined, boardOf}
+use Rattle.board.specs.Fair.{Fair}
 use Rattle.board.specs.Inner.{GoodPiles, Sound, Sized}
 use Rattle.board.specs.declared.Board.{Board}
 use Rattle.board.proofs.Tables.{good-piles}
-use Rattle.board.proofs.Soundness.{sound, fair}
+use Rattle.board.proofs.Soundness.{sound}
 use Rattle.board.proofs.Counting.{whole-pack}
 use Rattle.board.proofs.Records.{Laid, listed-back, fine-of-record, sized-of-record}
-use Rattle.board.proofs.Fitting.{fits, bare-fair}
+use Rattle.board.proofs.Fitting.{fits}
+use Rattle.board.proofs.Fair.{bare-fair, fair-judged, fair-laid}
 use Rattle.intake.specs.Image.{joining, columnsIn, judgedWith, framed, versioned, bodied, imageRead}
 use Rattle.intake.specs.Deal.{rows, dealtColumn, dealt, dealAsked}
 use Rattle.intake.proofs.Dealing.{row-within, board-dealt}
@@ -128,11 +130,11 @@ module _ (deck : List ℕ) (full : length deck ≡ 52) where
         rw (getD-listed (λ row. getD deck (row * 8 + i) 0) (rows i) r 0 m)
         (all-at isCard deck cards (r * 8 + i) (let w = row-within i r h m in omega arith))))
 
-    -- a deal is well formed
-    pub dealt-fair : wellFormed (dealt deck) ≡ true
+    -- a dealt table is fair
+    pub dealt-fair : Fair (dealt deck)
     unfolding dealt
     dealt-fair =
-        bare-fair (listed 8 (dealtColumn deck)) dealt-cards (λ k h. same-cards (cardAt k) ∙ whole-pack deck cards once full k h)
+        bare-fair (listed 8 (dealtColumn deck)) (length-listed (dealtColumn deck) 8) dealt-cards (λ k h. same-cards (cardAt k) ∙ whole-pack deck cards once full k h)
 
 -- dealing gives a fine board, if any, with 7, 7, 7, 7, 6, 6, 6, 6 cards in its columns
 pub deal-fine : (deck : List ℕ) {b : Board} → dealAsked deck ≡ given b → Fine b
@@ -142,13 +144,10 @@ deal-fine deck {b} e =
     let c = given-by (all isCard deck) 13 _ (n .1) in
     let w = given-by (noneTwice deck) 14 _ (c .1) in
     let full = eqb-true (length deck) 52 (n .0) in
-    let j = fair (dealt deck) (dealt-fair deck full (c .0) (w .0)) in
+    let f = dealt-fair deck full (c .0) (w .0) in
     let same : boardOf (dealt deck) ≡ b = (let q = w .1 in cc) in
     subst Fine same
-    (fine-table (dealt deck) (fits (dealt deck) refl (record { four = refl; within = none-home }) (length-listed (dealtColumn deck) 8) j) j)
-  where
-    none-home : (s : ℕ) → s < 4 → getD (replicate {A = ℕ} 4 0) s 0 ≤ 13
-    none-home s h = let z = getD-replicate {A = ℕ} 4 s 0 0 h in omega arith
+    (fine-table (dealt deck) (fair-laid (dealt deck) f) (fair-judged f))
 
 pub deal-columns : (deck : List ℕ) {b : Board} → dealAsked deck ≡ given b → b .counts ≡ 7 ∷ 7 ∷ 7 ∷ 7 ∷ 6 ∷ 6 ∷ 6 ∷ 6 ∷ []
 unfolding dealAsked

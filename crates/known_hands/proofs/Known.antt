@@ -6,7 +6,8 @@ use Rattle.card.specs.Card.{isValue, codeOf, isCard, cardOf}
 use Rattle.card.specs.Suit.{suitAt}
 use Rattle.card.specs.Pack.{cardAt}
 use Rattle.board.specs.Table.{pile, piles, held, cardsOn}
-use Rattle.board.specs.Judged.{isCell, onlyCards, wellFormed}
+use Rattle.board.specs.Judged.{isCell, onlyCards}
+use Rattle.board.specs.Fair.{isFair}
 use Rattle.questions.specs.Questions.{homeCount, emptyCells, emptyColumns, wonOn}
 use Rattle.rules.specs.Fit.{red, follows, fitsOn, homeTakes}
 use Rattle.rules.specs.Run.{isRun, runLength}
@@ -32,5 +33,5 @@ use Rattle.known_hands.specs.Boards.{keep, share, laid, buried, T, crowd
 use Rattle.known_hands.specs.Hands.{sameScore, sameBytes, sameAnswer, forEach, holds, allHold, hands}
 
 pub known-hands : allHold hands ≡ true
-unfolding xor every all occurs listed concat sum isValue codeOf isCard cardOf suitAt cardAt pile piles held cardsOn isCell onlyCards wellFormed homeCount emptyCells emptyColumns wonOn red follows fitsOn homeTakes isRun runLength usable mostMoved recordOf lastOf othersOf hand without afterMove takes allowed afterMoves offered ifAllowed gather foundBetween foundFrom found bytesOf placed rising xorDigits fnvStep fnvFrom fnv homeWords columnHashes wordsOf signed signatureOf greatest least lastGoesHome immediateOn blockedIn blockedOn imbalanceOf cellsUsed longestRun featuresOf heuristic progress heuristicKey progressKey priorityAdds priorityTakes priority priorityOn redSuit needed safe chosen isSafe homeMoves firstOf firstSafe chainOf chain better worthwhile isUnsafe lateMoves tried ranked inOrder candidates childMoves childTable before queued costOf start childOf dropped higher bearing noRoom bear expand visit taken run solve judge keep share laid buried T crowded isBoard sameScore sameBytes sameAnswer forEach holds allHold hands
+unfolding xor every all occurs listed concat sum isValue codeOf isCard cardOf suitAt cardAt pile piles held cardsOn isCell onlyCards isFair homeCount emptyCells emptyColumns wonOn red follows fitsOn homeTakes isRun runLength usable mostMoved recordOf lastOf othersOf hand without afterMove takes allowed afterMoves offered ifAllowed gather foundBetween foundFrom found bytesOf placed rising xorDigits fnvStep fnvFrom fnv homeWords columnHashes wordsOf signed signatureOf greatest least lastGoesHome immediateOn blockedIn blockedOn imbalanceOf cellsUsed longestRun featuresOf heuristic progress heuristicKey progressKey priorityAdds priorityTakes priority priorityOn redSuit needed safe chosen isSafe homeMoves firstOf firstSafe chainOf chain better worthwhile isUnsafe lateMoves tried ranked inOrder candidates childMoves childTable before queued costOf start childOf dropped higher bearing noRoom bear expand visit taken run solve judge keep share laid buried T crowded isBoard sameScore sameBytes sameAnswer forEach holds allHold hands
 known-hands = refl

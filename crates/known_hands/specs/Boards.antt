@@ -7,7 +7,7 @@ use lib.ListN.{length, getD}
 use Rattle.card.specs.Words.{every, listed}
 use Rattle.card.specs.Pack.{cardAt}
 use Rattle.board.specs.Table.{Table}
-use Rattle.board.specs.Judged.{wellFormed}
+use Rattle.board.specs.Fair.{isFair}
 
 -- ---- how they are laid out
 
@@ -66,8 +66,7 @@ crowded =
       columns = [] ∷ listed 7 (share 7 (keep (λ x. leb 2 (x / 16)) pack));
     }
 
--- ---- what every one of them is: well formed, of four cells, four foundations and eight columns, none over seven cards
+-- ---- what every one of them is: fair, and no column over seven cards
 unfoldable pub isBoard : Table → Bool
 isBoard t =
-    wellFormed t
-    && ((eqb (length (t .cells)) 4 && (eqb (length (t .foundation)) 4 && eqb (length (t .columns)) 8)) && every 8 (λ i. leb (length (getD (t .columns) i [])) 7))
+    isFair t && every 8 (λ i. leb (length (getD (t .columns) i [])) 7)

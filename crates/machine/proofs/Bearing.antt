@@ -7,8 +7,8 @@ use borrow.Author.Tests.{lt-ltb, le-ltb, le-leb, lt-leb}
 use lib.Dec.{leb, ltb}
 use lib.ListN.{length, length-append}
 use Rattle.board.specs.Table.{Table}
+use Rattle.board.specs.Fair.{Fair}
 use Rattle.moves.specs.declared.Move.{Move}
-use Rattle.moves.proofs.Fairness.{Fair}
 use Rattle.costs.specs.Entries.{costAt}
 use Rattle.costs.specs.CostIn.{KnownCost, costIn}
 use Rattle.costs.specs.Promises.{Held, Vacant}

@@ -7,12 +7,11 @@ use Rattle.board.specs.Table.{Table}
 use Rattle.board.specs.Record.{shown, boardOf}
 use Rattle.board.specs.declared.Board.{Board}
 use Rattle.board.proofs.Records.{shown-of-record}
+use Rattle.board.specs.Fair.{Fair}
+use Rattle.board.proofs.Fair.{shows-fair, fair-laid, fair-sound}
 use Rattle.moves.specs.Move.{count}
 use Rattle.moves.specs.declared.Move.{Move}
-use Rattle.moves.proofs.Fairness.{Fair}
 use Rattle.play.specs.Change.{Ready}
-use Rattle.play.proofs.Playing.{shows-fair}
-use Rattle.replay.proofs.Stepping.{fair-laid, fair-sound}
 use Rattle.score.specs.Features.{Bounded, featuresOf}
 use Rattle.score.specs.Scores.{heuristicKey}
 use Rattle.score.proofs.Bounds.{bounded}

@@ -9,8 +9,8 @@ use lib.ListN.{length, getD, drop, drop-of-length-le}
 use lib.Seq.{drop-cons}
 use Rattle.card.proofs.Words.{length-listed, getD-listed}
 use Rattle.board.specs.Table.{Table}
+use Rattle.board.specs.Fair.{Fair}
 use Rattle.moves.specs.declared.Move.{Move}
-use Rattle.moves.proofs.Fairness.{Fair}
 use Rattle.candidates.specs.Candidates.{candidates}
 use Rattle.candidates.specs.Inner.{Playable, AllPlayable, moveAt, movesIn}
 use Rattle.candidates.proofs.Trying.{all-candidates}

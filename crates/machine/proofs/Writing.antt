@@ -11,9 +11,9 @@ use borrow.Author.Tests.{eq-eqb, ne-eqb}
 use lib.Dec.{eqb, ltb}
 use lib.ListN.{length, length-append}
 use Rattle.board.specs.Table.{Table}
+use Rattle.board.specs.Fair.{Fair}
 use Rattle.moves.specs.Move.{count}
 use Rattle.moves.specs.declared.Move.{Move}
-use Rattle.moves.proofs.Fairness.{Fair}
 use Rattle.frontier.specs.Heap.{bag}
 use Rattle.frontier.specs.Packing.{packed}
 use Rattle.order.specs.Rising.{placed}

@@ -17,13 +17,14 @@ use Rattle.card.proofs.Words.{first, second, listed-more, length-listed, getD-l
 use Rattle.card.proofs.Codes.{code-is-card, suit-below, card-is}
 use Rattle.board.specs.Table.{Table, pile, held, cardsOn}
 use Rattle.board.proofs.Tables.{cell-empty, cell-card}
+use Rattle.board.specs.Fair.{Seats}
 use Rattle.rules.specs.Fit.{homeTakes}
 use Rattle.rules.specs.Run.{isRun}
 use Rattle.moves.specs.Move.{cell, home, from, to, count, card, isPlace, sayable}
 use Rattle.moves.specs.Play.{there, cellCode, lastOf, othersOf, hand, without, afterMove, elsewhere, withinLimit, fitsColumn, cellFree, nextHome, takes, allowed}
 use Rattle.moves.specs.declared.Move.{Move}
 use Rattle.moves.specs.declared.Move.the-variants.{TableauToTableau, TableauToFoundation, TableauToFreeCell, FreeCellToTableau, FreeCellToFoundation, FoundationToTableau}
-use Rattle.moves.proofs.Keeping.{Seats, Holds, move-keeps}
+use Rattle.moves.proofs.Keeping.{Holds, move-keeps}
 
 -- ---- the tests one by one
 

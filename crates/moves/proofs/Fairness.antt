@@ -5,27 +5,29 @@ use mathlib.Core.List.{List, [], _∷_, _++_}
 use Prim.Native.Nat.{ℕ, zero, suc, _+_, _-_, _*_, _<_, _≤_}
 use native.Mathlib.Omega.{arith}
 use native.Mathlib.Decide.{ℕ-discrete}
-use borrow.Author.Tests.{eqb-true, ltb-true, eq-eqb}
+use borrow.Author.Tests.{ltb-true}
 use lib.Dec.{eqb, leb}
 use lib.ListN.{length, getD, take, drop, set, length-take, length-append, take-append-drop, length-set}
 use lib.Seq.{getD-set-same, getD-set-other}
-use Rattle.card.specs.Words.{all, occurs, listed, concat}
+use Rattle.card.specs.Words.{all, listed, concat}
 use Rattle.card.specs.Suit.{suitNumber}
 use Rattle.card.specs.Card.{isCard, isValue, codeOf}
 use Rattle.card.specs.Pack.{cardAt}
 use Rattle.card.specs.declared.Card.{Card}
-use Rattle.card.proofs.Words.{first, second, both, all-append, all-at, every-at, every-by, length-listed}
+use Rattle.card.proofs.Words.{first, second, both, all-append, all-at, length-listed}
 use Rattle.card.proofs.Codes.{value-is, suit-below}
-use Rattle.board.specs.Table.{Table, pile, cardsOn}
-use Rattle.board.specs.Judged.{isCell, onlyCards, wellFormed}
+use Rattle.board.specs.Table.{Table, pile}
+use Rattle.board.specs.Judged.{isCell, onlyCards}
 use Rattle.board.specs.Inner.{GoodPiles}
 use Rattle.board.proofs.Fitting.{pile-cards, held-cards}
+use Rattle.board.specs.Fair.{Seats, Fair}
+use Rattle.board.proofs.Fair.{fair-piles}
 use Rattle.rules.specs.Fit.{homeTakes}
 use Rattle.moves.specs.Move.{Place, column, cell, home, from, to, count, card, isPlace, sayable}
 use Rattle.moves.specs.Play.{there, cellCode, put, lastOf, othersOf, hand, without, afterMove, allowed}
 use Rattle.moves.specs.declared.Move.{Move}
 use Rattle.moves.specs.declared.Move.the-variants.{TableauToTableau, TableauToFoundation, TableauToFreeCell, FreeCellToTableau, FreeCellToFoundation, FoundationToTableau}
-use Rattle.moves.proofs.Keeping.{Seats, seats-put}
+use Rattle.moves.proofs.Keeping.{seats-put}
 use Rattle.moves.proofs.Allowing.{Allowed, allowed-is, allowed-keeps, one-card, code-high, next-code}
 
 -- ---- tests over lists of which one element changes
@@ -143,37 +145,29 @@ module _ (t : Table) (g : GoodPiles (t .foundation)) where
 
 -- ---- an allowed move leaves a well-formed table
 
-pub record Fair (t : Table) : Type 0 where
-  pub seats : Seats t
-  pub piles : GoodPiles (t .foundation)
-  pub well : wellFormed t ≡ true
-
 -- only cards lie at its places
 pub fair-cards : (t : Table) (p : Place) → Fair t → isPlace p ≡ true → all isCard (there t p) ≡ true
-unfolding wellFormed
-fair-cards t p f e = there-cards t p (f .seats) (f .piles) (first (onlyCards t) _ (f .well)) e
+fair-cards t p f e = there-cards t p (f .seats) (fair-piles f) (f .cards) e
 
 pub fair-after : (t : Table) (m : Move) → Fair t → sayable m ≡ true → allowed t m ≡ true → Fair (afterMove t m)
-unfolding sayable wellFormed afterMove without hand lastOf othersOf
+unfolding sayable afterMove without hand lastOf othersOf
 fair-after t m f e w =
     let rest = second (isPlace (from m)) _ e in
     let v = second (leb 1 (count m) && leb (count m) 255) (isValue (card m .value)) (second (isPlace (to m)) _ rest) in
     let a = allowed-is t m w in
-    let o = first (onlyCards t) _ (f .well) in
-    let once = every-at (λ k. eqb (occurs (cardAt k) (cardsOn t)) 1) 52 (second (onlyCards t) _ (f .well)) in
-    let source = there-cards t (from m) (f .seats) (f .piles) o (first (isPlace (from m)) _ e) in
+    let o = f .cards in
+    let p = fair-piles f in
+    let source = there-cards t (from m) (f .seats) p o (first (isPlace (from m)) _ e) in
     let parts = all-parts isCard (length (there t (from m)) - count m) (there t (from m)) source in
     let u = without t m in
     let uSeats = seats-put t (from m) (othersOf (count m) (there t (from m))) (f .seats) in
-    let uPiles = put-piles t (from m) (othersOf (count m) (there t (from m))) (f .piles) (short-left t (f .piles) m (first (isPlace (from m)) _ e)) in
+    let uPiles = put-piles t (from m) (othersOf (count m) (there t (from m))) p (short-left t p m (first (isPlace (from m)) _ e)) in
     let uOnly = put-only t (from m) (othersOf (count m) (there t (from m))) o (first (all isCard (take (length (there t (from m)) - count m) (there t (from m)))) _ parts) in
     let target = there-cards u (to m) uSeats uPiles uOnly (first (isPlace (to m)) _ rest) in
     let both-cards = all-append isCard (there u (to m)) (hand t m) ∙ both target (second (all isCard (take (length (there t (from m)) - count m) (there t (from m)))) _ parts) in
     record {
       seats = seats-put u (to m) _ uSeats;
-      piles = put-piles u (to m) _ uPiles (short-come t (f .piles) m v a);
-      well = both (put-only u (to m) _ uOnly both-cards)
-          (every-by (λ k. eqb (occurs (cardAt k) (cardsOn (afterMove t m))) 1) 52
-          (λ k h. eq-eqb (occurs (cardAt k) (cardsOn (afterMove t m))) 1
-          (allowed-keeps t m (f .seats) e w (cardAt k) ∙ eqb-true (occurs (cardAt k) (cardsOn t)) 1 (once k h))));
+      kings = put-piles u (to m) _ uPiles (short-come t p m v a) .within;
+      cards = put-only u (to m) _ uOnly both-cards;
+      once = λ k h. allowed-keeps t m (f .seats) e w (cardAt k) ∙ f .once k h;
     }

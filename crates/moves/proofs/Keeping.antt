@@ -13,6 +13,7 @@ use Rattle.card.specs.Words.{occurs, concat, sum}
 use Rattle.card.proofs.Words.{occurs-append, occurs-concat}
 use Rattle.card.proofs.Sums.{sum-same}
 use Rattle.board.specs.Table.{Table, pile, piles, held, cardsOn}
+use Rattle.board.specs.Fair.{Seats}
 use Rattle.board.proofs.Tables.{held-append}
 use Rattle.moves.specs.Move.{Place, column, cell, home, from, to, count, isPlace}
 use Rattle.moves.specs.Play.{there, cellCode, put, lastOf, othersOf, hand, without, afterMove}
@@ -70,11 +71,6 @@ module _ (x : ℕ) where
       omega arith
 
 -- ---- a table of four cells, four piles and eight columns
-
-pub record Seats (t : Table) : Type 0 where
-  pub four : length (t .cells) ≡ 4
-  pub piles4 : length (t .foundation) ≡ 4
-  pub eight : length (t .columns) ≡ 8
 
 pub seats-put : (t : Table) (p : Place) (l : List ℕ) → Seats t → Seats (put t p l)
 seats-put t (column i) l s = record { four = s .four; piles4 = s .piles4; eight = length-set (t .columns) i l ∙ s .eight }

@@ -9,12 +9,13 @@ use lib.ListN.{length, getD, set, length-append}
 use lib.Seq.{getD-set-same, getD-set-other}
 use Rattle.card.proofs.Words.{length-listed}
 use Rattle.board.specs.Table.{Table, pile}
+use Rattle.board.specs.Fair.{Seats}
 use Rattle.questions.specs.Questions.{homeCount}
 use Rattle.moves.specs.Move.{Place, column, cell, home, from, to, count, isPlace, sayable}
 use Rattle.moves.specs.Play.{there, put, lastOf, othersOf, hand, without, afterMove, allowed, homeward}
 use Rattle.moves.specs.declared.Move.{Move}
 use Rattle.moves.specs.declared.Move.the-variants.{TableauToTableau, TableauToFoundation, TableauToFreeCell, FreeCellToTableau, FreeCellToFoundation, FoundationToTableau}
-use Rattle.moves.proofs.Keeping.{Seats, seats-put, sum-changed, others-and-last}
+use Rattle.moves.proofs.Keeping.{seats-put, sum-changed, others-and-last}
 use Rattle.moves.proofs.Allowing.{allowed-is, last-length}
 use Rattle.moves.proofs.Records.{said-from, said-to}
 

@@ -12,12 +12,13 @@ use Rattle.moves.specs.Play.{there, lastOf, hand}
 use Rattle.moves.specs.declared.Move.{Move}
 use Rattle.moves.proofs.Records.{said-from, said-count}
 use Rattle.moves.proofs.Allowing.{allowed-is}
-use Rattle.moves.proofs.Fairness.{Fair, fair-cards}
+use Rattle.moves.proofs.Fairness.{fair-cards}
 use Rattle.rules.specs.Run.{runLength}
 use Rattle.rules.proofs.Laying.{run-top, run-13}
 use borrow.Author.Tests.{leb-true}
+use Rattle.board.specs.Fair.{Fair}
+use Rattle.board.proofs.Fair.{fair-laid}
 use Rattle.replay.specs.Played.{afterMoves, Legal}
-use Rattle.replay.proofs.Stepping.{fair-laid}
 use Rattle.replay.proofs.Legal.{after-append, legal-append}
 use Rattle.candidates.specs.Children.{childMoves}
 use Rattle.candidates.specs.Inner.{Playable}

@@ -11,14 +11,14 @@ use Rattle.board.specs.Record.{shown, boardOf}
 use Rattle.board.specs.Inner.{Sound}
 use Rattle.board.specs.declared.Board.{Board}
 use Rattle.board.proofs.Records.{record-of-shown, shown-of-record}
+use Rattle.board.proofs.Fair.{shows-fair, fair-laid}
 use Rattle.moves.specs.Record.{moveAsked, moveTold}
 use Rattle.moves.specs.declared.Move.{Move}
 use Rattle.moves.specs.declared.Decoded.{Decoded}
 use Rattle.moves.specs.declared.Decoded.the-variants.{Is, Impossible}
 use Rattle.moves.specs.Play.{afterMove}
 use Rattle.play.specs.Change.{Becomes, Ready}
-use Rattle.play.proofs.Playing.{shows-fair}
-use Rattle.replay.proofs.Stepping.{became, fair-laid}
+use Rattle.replay.proofs.Stepping.{became}
 use Rattle.candidates.specs.Children.{childMoves, childTable}
 use Rattle.candidates.specs.Inner.{Bears}
 use Rattle.candidates.proofs.Bearing.{child-fair, child-alone, next-sound}

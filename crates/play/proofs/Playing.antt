@@ -17,36 +17,22 @@ use Rattle.card.specs.declared.Suit.{Suit}
 use Rattle.card.proofs.Codes.{code-is-card}
 use Rattle.card.proofs.Words.{first, second, length-listed}
 use Rattle.board.specs.Table.{Table, pile, held}
-use Rattle.board.specs.Record.{room, columnAt, shown}
-use Rattle.board.specs.Inner.{GoodPiles, GoodColumns, Sound}
+use Rattle.board.specs.Record.{room, shown}
+use Rattle.board.specs.Inner.{GoodColumns}
 use Rattle.board.specs.declared.Board.{Board}
-use Rattle.board.proofs.Soundness.{fair, fine-fair, sound-shape, sound-fine, column-length}
-use Rattle.board.proofs.Judging.{good-shape}
+use Rattle.board.proofs.Soundness.{column-length}
 use Rattle.board.proofs.Tables.{cell-empty, cell-card}
-use Rattle.board.proofs.Fitting.{fits}
-use Rattle.questions.proofs.Asking.{shown-column, shown-columns, shown-cells, shown-foundation}
+use Rattle.board.specs.Fair.{Seats, Fair}
+use Rattle.board.proofs.Fair.{shows-fair, fair-laid}
+use Rattle.questions.proofs.Asking.{shown-column, shown-foundation}
 use Rattle.moves.specs.Move.{Place, column, cell, home, from, to, count, card, isPlace, sayable}
 use Rattle.moves.specs.Play.{there, cellCode, put, lastOf, othersOf, hand, without, afterMove, cellFree}
 use Rattle.moves.specs.declared.Move.{Move}
 use Rattle.moves.specs.declared.Move.the-variants.{TableauToTableau, TableauToFoundation, TableauToFreeCell, FreeCellToTableau, FreeCellToFoundation, FoundationToTableau}
-use Rattle.moves.proofs.Keeping.{Seats, seats-put}
+use Rattle.moves.proofs.Keeping.{seats-put}
 use Rattle.moves.proofs.Allowing.{Allowed, allowed-is, one-card}
-use Rattle.moves.proofs.Fairness.{Fair, fair-after}
+use Rattle.moves.proofs.Fairness.{fair-after}
 use Rattle.play.specs.Change.{Becomes, Ready}
-
--- ---- a sound record shows a fair table
-
-pub shows-fair : {b : Board} → Sound b → Fair (shown b)
-shows-fair {b} s =
-    record {
-      seats = record {
-        four = ap length (sym (shown-cells b)) ∙ s .inCells .four;
-        piles4 = ap length (sym (shown-foundation b)) ∙ s .inPiles .four;
-        eight = ap length (sym (shown-columns b)) ∙ length-listed (columnAt (b .counts) (b .tableau)) 8;
-      };
-      piles = subst GoodPiles (shown-foundation b) (s .inPiles);
-      well = fine-fair (shown b) (sym (good-shape b (sound-shape s)) ∙ sound-fine s);
-    }
 
 -- ---- a fair table that a record shows, with good columns, is a sound record's
 
@@ -55,7 +41,7 @@ count-there b g i h = ap length (sym (shown-column b i h)) ∙ column-length g i
 
 -- no column of a fair table is over its room
 fair-short : (t : Table) → Fair t → (i : ℕ) → i < 8 → length (there t (column i)) ≤ room
-fair-short t f i h = fits t (f .seats .four) (f .piles) (f .seats .eight) (fair t (f .well)) .short i h
+fair-short t f i h = fair-laid t f .short i h
 
 module _ {b : Board} {m : Move} (r : Ready b m) where
   abbrev t : Table

@@ -12,17 +12,19 @@ use Rattle.board.specs.Record.{shown, boardOf}
 use Rattle.board.specs.Inner.{Sound}
 use Rattle.board.specs.declared.Board.{Board}
 use Rattle.board.proofs.Records.{record-of-shown, shown-of-record}
+use Rattle.board.specs.Fair.{Fair}
+use Rattle.board.proofs.Fair.{fair-laid}
 use Rattle.moves.specs.Move.{sayable}
 use Rattle.moves.specs.Record.{recordOf}
 use Rattle.moves.specs.Play.{allowed, afterMove}
 use Rattle.moves.specs.declared.Move.{Move}
 use Rattle.moves.proofs.Saying.{asked-said}
 use Rattle.moves.proofs.Allowing.{allowed-keeps}
-use Rattle.moves.proofs.Fairness.{Fair, fair-after}
+use Rattle.moves.proofs.Fairness.{fair-after}
 use Rattle.replay.specs.Step.{playedOn, stepped}
 use Rattle.replay.specs.Line.{oneMore, goOn, lineFrom}
 use Rattle.replay.specs.Played.{afterMoves, Legal, recordsOf}
-use Rattle.replay.proofs.Stepping.{made-yes, fair-laid, sound-after, fair-then}
+use Rattle.replay.proofs.Stepping.{made-yes, sound-after, fair-then}
 
 -- ---- a move, and a list after a list
 

@@ -6,19 +6,17 @@ use Prim.Native.Nat.{ℕ}
 use native.Mathlib.Omega.{arith}
 use Rattle.card.specs.Words.{occurs}
 use Rattle.card.specs.Answer.{Answer, given, refused, unless}
-use Rattle.card.proofs.Words.{length-listed}
 use Rattle.board.specs.Table.{Table, cardsOn}
 use Rattle.board.specs.Judged.{fine}
-use Rattle.board.specs.Record.{columnAt, shown, boardOf}
+use Rattle.board.specs.Record.{shown, boardOf}
 use Rattle.board.specs.Refusal.{numberOf, examinedTold}
 use Rattle.board.specs.Inner.{Sound}
 use Rattle.board.specs.declared.Board.{Board}
 use Rattle.board.specs.declared.Refusal.{Refusal}
 use Rattle.board.specs.declared.Examined.the-variants.{WellFormed, Refused}
-use Rattle.board.proofs.Judging.{good-shape}
-use Rattle.board.proofs.Soundness.{sound, sound-shape, sound-fine, fair, fine-fair}
-use Rattle.board.proofs.Fitting.{fits}
-use Rattle.board.proofs.Records.{Laid, record-of-shown, shown-of-record, fine-of-record, sized-of-record}
+use Rattle.board.proofs.Records.{record-of-shown, shown-of-record}
+use Rattle.board.specs.Fair.{Fair}
+use Rattle.board.proofs.Fair.{shows-fair, fair-laid, fair-sound}
 use Rattle.moves.specs.Move.{sayable}
 use Rattle.moves.specs.Record.{moveAsked, moveTold}
 use Rattle.moves.specs.Play.{afterMove, played, allowed}
@@ -26,7 +24,7 @@ use Rattle.moves.specs.declared.Move.{Move}
 use Rattle.moves.specs.declared.Decoded.{Decoded}
 use Rattle.moves.specs.declared.Decoded.the-variants.{Is, Impossible}
 use Rattle.moves.proofs.Allowing.{allowed-keeps}
-use Rattle.moves.proofs.Fairness.{Fair, fair-after}
+use Rattle.moves.proofs.Fairness.{fair-after}
 use Rattle.moves.proofs.Deciding.{played-is}
 use Rattle.play.specs.Change.{Becomes}
 use Rattle.replay.specs.Step.{recorded, playedOn, stepped}
@@ -82,24 +80,9 @@ became {r} s = ap boardOf (sym (s .shows)) ∙ record-of-shown r (s .good)
 
 -- ---- a well-formed board, and the one after an allowed move
 
-fair-board : (b : Board) → Sound b → Fair (shown b)
-unfolding shown
-fair-board b s =
-    record {
-      seats = record { four = s .inCells .four; piles4 = s .inPiles .four; eight = length-listed (columnAt (b .counts) (b .tableau)) 8 };
-      piles = s .inPiles;
-      well = fine-fair (shown b) (sym (good-shape b (sound-shape s)) ∙ sound-fine s);
-    }
-
-pub fair-laid : (t : Table) → Fair t → Laid t
-fair-laid t f = fits t (f .seats .four) (f .piles) (f .seats .eight) (fair t (f .well))
-
-pub fair-sound : (t : Table) → Fair t → Sound (boardOf t)
-fair-sound t f = let l = fair-laid t f in sound (boardOf t) (sized-of-record t l) (fine-of-record t l (fair t (f .well)))
-
 module _ (b : Board) (s : Sound b) (m : Move) (said : sayable m ≡ true) (ok : allowed (shown b) m ≡ true) where
   pub fair-then : Fair (afterMove (shown b) m)
-  fair-then = fair-after (shown b) m (fair-board b s) said ok
+  fair-then = fair-after (shown b) m (shows-fair s) said ok
 
   pub sound-after : Sound (boardOf (afterMove (shown b) m))
   sound-after = fair-sound (afterMove (shown b) m) fair-then
@@ -111,4 +94,4 @@ module _ (b : Board) (s : Sound b) (m : Move) (said : sayable m ≡ true) (ok : 
   pub cards-after : (x : ℕ) → occurs x (cardsOn (shown (boardOf (afterMove (shown b) m)))) ≡ occurs x (cardsOn (shown b))
   cards-after x =
       ap (λ (t : Table). occurs x (cardsOn t)) shown-after
-      ∙ allowed-keeps (shown b) m (fair-board b s .seats) said ok x
+      ∙ allowed-keeps (shown b) m (shows-fair s .seats) said ok x

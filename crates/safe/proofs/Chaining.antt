@@ -8,12 +8,12 @@ use Rattle.card.specs.Words.{occurs}
 use Rattle.board.specs.Table.{Table, cardsOn}
 use Rattle.board.specs.Record.{boardOf}
 use Rattle.board.specs.Inner.{Sound}
+use Rattle.board.specs.Fair.{Fair}
+use Rattle.board.proofs.Fair.{fair-sound}
 use Rattle.questions.specs.Questions.{homeCount}
 use Rattle.moves.specs.Play.{afterMove}
 use Rattle.moves.specs.declared.Move.{Move}
-use Rattle.moves.proofs.Fairness.{Fair}
 use Rattle.replay.specs.Played.{afterMoves, Legal}
-use Rattle.replay.proofs.Stepping.{fair-sound}
 use Rattle.replay.proofs.Legal.{after-none, after-next, legal-fair, legal-cards}
 use Rattle.safe.specs.Safe.{firstSafe}
 use Rattle.safe.specs.Chain.{andOn, chainOf, chain}

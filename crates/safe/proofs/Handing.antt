@@ -17,11 +17,11 @@ use Rattle.board.specs.declared.Refusal.{Refusal}
 use Rattle.board.specs.declared.Examined.{Examined}
 use Rattle.board.specs.declared.Examined.the-variants.{WellFormed, Refused}
 use Rattle.board.proofs.Records.{record-of-shown}
+use Rattle.board.proofs.Fair.{shows-fair}
 use Rattle.questions.proofs.Asking.{after-yes, shown-foundation}
 use Rattle.moves.specs.Play.{afterMove}
 use Rattle.moves.specs.declared.Move.{Move}
 use Rattle.play.specs.Change.{Becomes, Ready}
-use Rattle.play.proofs.Playing.{shows-fair}
 use Rattle.replay.specs.Played.{afterMoves}
 use Rattle.replay.proofs.Stepping.{became, sound-after}
 use Rattle.replay.proofs.Legal.{after-none, after-next}

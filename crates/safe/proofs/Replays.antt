@@ -11,9 +11,9 @@ use Rattle.board.specs.Inner.{Sound}
 use Rattle.board.specs.declared.Board.{Board}
 use Rattle.board.specs.declared.Examined.the-variants.{WellFormed}
 use Rattle.board.proofs.Soundness.{sound-fine}
+use Rattle.board.proofs.Fair.{shows-fair}
 use Rattle.moves.specs.Record.{recordOf}
 use Rattle.moves.specs.declared.Move.{Move}
-use Rattle.play.proofs.Playing.{shows-fair}
 use Rattle.replay.specs.Line.{lineFrom, recordsIn, replayed}
 use Rattle.replay.specs.Played.{afterMoves, recordsOf}
 use Rattle.replay.proofs.Lining.{records-none, records-first}

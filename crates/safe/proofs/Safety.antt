@@ -5,13 +5,15 @@ use mathlib.Core.Logic.{_⊎_, ⊎-elim}
 use Prim.Native.Nat.{suc, _≤_}
 use native.Mathlib.Omega.{arith}
 use Rattle.board.specs.Table.{Table}
+use Rattle.board.specs.Fair.{Fair}
+use Rattle.board.proofs.Fair.{fair-piles}
 use Rattle.questions.specs.Questions.{homeCount}
 use Rattle.questions.proofs.Totals.{home-52}
 use Rattle.moves.specs.Move.{from, to, sayable}
 use Rattle.moves.specs.Play.{allowed, afterMove, homeward}
 use Rattle.moves.specs.declared.Move.{Move}
 use Rattle.moves.specs.declared.Move.the-variants.{TableauToTableau, TableauToFoundation, TableauToFreeCell, FreeCellToTableau, FreeCellToFoundation, FoundationToTableau}
-use Rattle.moves.proofs.Fairness.{Fair, fair-after}
+use Rattle.moves.proofs.Fairness.{fair-after}
 use Rattle.moves.proofs.Totals.{home-total}
 use Rattle.generate.specs.Found.{found, wayOf, isIn}
 use Rattle.generate.specs.declared.Way.{Way}
@@ -84,5 +86,5 @@ all-home t f h = by-first (firstSafe t) refl
     by-first NoMove e = e
     by-first (Is m) e =
         let n = one-more-home t e f in
-        let k = home-52 (afterMove t m .foundation) (safe-fair t e f .piles) in
+        let k = home-52 (afterMove t m .foundation) (fair-piles (safe-fair t e f)) in
         absurd (let z : ⊥ = omega arith in z)

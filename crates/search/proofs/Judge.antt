@@ -13,12 +13,11 @@ use Rattle.board.specs.Record.{shown, boardOf}
 use Rattle.board.specs.Inner.{Sound}
 use Rattle.board.specs.declared.Board.{Board}
 use Rattle.board.proofs.Records.{shown-of-record}
+use Rattle.board.specs.Fair.{Fair}
+use Rattle.board.proofs.Fair.{shows-fair, fair-laid, fair-sound}
 use Rattle.questions.specs.Questions.{wonOn}
 use Rattle.moves.specs.declared.Move.{Move}
-use Rattle.moves.proofs.Fairness.{Fair}
-use Rattle.play.proofs.Playing.{shows-fair}
 use Rattle.replay.specs.Played.{afterMoves, Legal}
-use Rattle.replay.proofs.Stepping.{fair-laid, fair-sound}
 use Rattle.replay.proofs.Legal.{legal-fair, legal-cards, line-legal}
 use Rattle.score.specs.Features.{Bounded, featuresOf}
 use Rattle.score.specs.Scores.{progressKey}

@@ -80,7 +80,7 @@ solve-answer : (w : Bool) (t : Table) (budget capacity : ℕ) (partial : Bool) �
 solve-answer true t budget capacity partial = inl (omega arith)
 solve-answer false t budget capacity partial = end-answer partial (run freecell budget capacity (start freecell t))
 
-judge-answer : (t : Table) (budget capacity : ℕ) (partial : Bool) → IsAnswer (judge t budget capacity partial .number)
+pub judge-answer : (t : Table) (budget capacity : ℕ) (partial : Bool) → IsAnswer (judge t budget capacity partial .number)
 unfolding judge solve
 judge-answer t budget capacity partial = solve-answer (wonOn (t .foundation)) t budget capacity partial
 

@@ -6,9 +6,9 @@ use native.Mathlib.Omega.{arith}
 use lib.ListN.{length, take, drop}
 use Rattle.board.specs.Record.{shown}
 use Rattle.board.specs.declared.Board.{Board}
+use Rattle.board.proofs.Fair.{shows-fair}
 use Rattle.moves.specs.Record.{moveOf}
 use Rattle.moves.specs.declared.Move.{Move}
-use Rattle.play.proofs.Playing.{shows-fair}
 use Rattle.candidates.specs.Candidates.{candidates}
 use Rattle.candidates.specs.Inner.{Playable, movesIn}
 use Rattle.candidates.proofs.Listing.{part-move}

@@ -7,11 +7,11 @@ use lib.ListN.{length}
 use Rattle.board.specs.Record.{shown}
 use Rattle.board.specs.Inner.{Sound}
 use Rattle.board.specs.declared.Board.{Board}
+use Rattle.board.proofs.Fair.{shows-fair}
 use Rattle.moves.specs.Play.{afterMove}
 use Rattle.moves.specs.declared.Move.{Move}
 use Rattle.moves.proofs.Fairness.{fair-after}
 use Rattle.play.specs.Change.{Ready}
-use Rattle.play.proofs.Playing.{shows-fair}
 use Rattle.costs.specs.CostIn.{costIn}
 use Rattle.signature.specs.Signed.{signatureOf}
 use Rattle.safe.proofs.Chaining.{chain-most}

@@ -5,7 +5,7 @@ use native.Mathlib.Omega.{arith}
 use Rattle.board.specs.Record.{shown}
 use Rattle.board.specs.Inner.{Sound}
 use Rattle.board.specs.declared.Board.{Board}
-use Rattle.play.proofs.Playing.{shows-fair}
+use Rattle.board.proofs.Fair.{shows-fair}
 use Rattle.score.specs.Features.{Bounded, featuresOf}
 use Rattle.score.specs.Scores.{heuristicKey}
 use Rattle.score.specs.declared.Features.{Features}

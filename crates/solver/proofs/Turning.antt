@@ -8,9 +8,9 @@ use Rattle.board.specs.Table.{Table}
 use Rattle.board.specs.Record.{shown, boardOf}
 use Rattle.board.specs.Inner.{Sound}
 use Rattle.board.specs.declared.Board.{Board}
+use Rattle.board.proofs.Fair.{shows-fair}
 use Rattle.questions.specs.Questions.{wonOn}
 use Rattle.questions.proofs.Asking.{shown-foundation}
-use Rattle.play.proofs.Playing.{shows-fair}
 use Rattle.frontier.specs.Heap.{Takes}
 use Rattle.costs.specs.Entries as costs
 use Rattle.nodes.specs.Step.{slotAt, costAt}

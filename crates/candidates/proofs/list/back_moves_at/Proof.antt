@@ -1,13 +1,13 @@
 -- What `back_moves_at` leaves to be shown: the moves back are written, and chosen from.
 use native.Mathlib.Omega.{arith}
 use Rattle.board.specs.Record.{shown}
-use Rattle.play.proofs.Playing.{shows-fair}
 use Rattle.generate.specs.declared.Way.the-variants.{HomeToColumn}
 use Rattle.candidates.specs.Candidates.{worthwhile}
 use Rattle.candidates.proofs.Trying.{all-found}
 use Rattle.candidates.proofs.Listing.{holds-written}
 use Rattle.candidates.proofs.Adding.{back-room, pick-room, picked}
 use borrow.Author.Needs.{needs}
+use Rattle.board.proofs.Fair.{shows-fair}
 use Rattle.candidates.proofs.list.back_moves_at.Statement.{statement}
 use Rattle.candidates.proofs.list.back_moves_at.Tie as tie
 

@@ -2,7 +2,6 @@
 use mathlib.Core.List.{_++_}
 use native.Mathlib.Omega.{arith}
 use Rattle.board.specs.Record.{shown}
-use Rattle.play.proofs.Playing.{shows-fair}
 use Rattle.generate.specs.Found.{found}
 use Rattle.generate.specs.declared.Way.the-variants.{HomeToColumn}
 use Rattle.safe.specs.Safe.{chosen, isSafe, homeMoves}
@@ -11,6 +10,7 @@ use Rattle.candidates.proofs.Trying.{all-home, most-home}
 use Rattle.candidates.proofs.Listing.{holds-written, moves-written}
 use Rattle.candidates.proofs.Adding.{first-room, next-room, adds-both, others, rest, tried-room, adds-tried, pick-room, picked}
 use borrow.Author.Needs.{needs}
+use Rattle.board.proofs.Fair.{shows-fair}
 use Rattle.candidates.proofs.list.tried_at.Statement.{statement}
 use Rattle.candidates.proofs.list.tried_at.Tie as tie
 

@@ -1,10 +1,10 @@
 -- What `expand` leaves to be shown: the candidates are written, and read one by one.
 use native.Mathlib.Omega.{arith}
 use Rattle.board.specs.Record.{shown}
-use Rattle.play.proofs.Playing.{shows-fair}
 use Rattle.candidates.proofs.Trying.{all-candidates, most-candidates}
 use Rattle.candidates.proofs.Listing.{holds-written, moves-written}
 use borrow.Author.Needs.{needs}
+use Rattle.board.proofs.Fair.{shows-fair}
 use Rattle.solver.proofs.grow.expand.Statement.{statement}
 use Rattle.solver.proofs.grow.expand.Tie as tie
 
