@@ -1,0 +1,277 @@
+-- Demand 1 holds.
+use mathlib.Core.Path.{_≡_, refl, sym, ap, ap₂, _∙_, subst}
+use mathlib.Core.Bool.{Bool, true, false, cond, _||_, or-true}
+use mathlib.Core.List.{List, [], _∷_}
+use Prim.Native.Nat.{ℕ}
+use native.Mathlib.Omega.{arith}
+use borrow.Author.Tests.{eqb-true}
+use lib.Dec.{eqb}
+use lib.IntN.{ℤ}
+use lib.ListN.{length, getD}
+use Rattle.card.specs.Answer.{Answer, given, refused, unless}
+use Rattle.card.specs.Words.{all}
+use Rattle.card.proofs.Words.{true-or-not}
+use Rattle.card.proofs.Answers.{given-by}
+use Rattle.board.specs.Table.{Table}
+use Rattle.board.specs.Judged.{Verdict, after}
+use Rattle.board.specs.Record.{examined, shown}
+use Rattle.board.specs.declared.Board.{Board}
+use Rattle.intake.specs.Image.{imageRead}
+use Rattle.intake.specs.Deal.{dealAsked}
+use Rattle.moves.specs.Record.{moveAsked}
+use Rattle.moves.specs.declared.Move.{Move}
+use Rattle.replay.specs.Step.{stepped, moveMade}
+use Rattle.replay.specs.Line.{Ending, goOn, lineFrom, recordsIn, isLine}
+use Rattle.generate.specs.Asked.{recordRoom}
+use Rattle.generate.specs.declared.Way.{Way}
+use Rattle.generate.specs.declared.Way.the-variants.{ColumnToColumn, ColumnToHome, ColumnToCell, CellToColumn, CellToHome, HomeToColumn}
+use Rattle.signature.specs.Signed.{signatureOf, signatureAsked}
+use Rattle.score.specs.Features.{featuresOf}
+use Rattle.score.specs.Token.{tokenOf}
+use Rattle.score.specs.Asked.{featuresAsked, tokenRoom}
+use Rattle.score.specs.declared.Features.{Features}
+use Rattle.priority.specs.Asked.{priorityBy, priorityAsked}
+use Rattle.candidates.specs.Candidates.{candidates as tried}
+use Rattle.solver.specs.Told as solver
+use Rattle.solver.proofs.Calls.{answer-clears, T1-none}
+use Rattle.cabinet.specs.Wire.{boardRoom, boardIn}
+use Rattle.cabinet.specs.Crossing.{left, told, asked}
+use Rattle.cabinet.specs.Boards.{boardLeft, readLeft, dealLeft, moveLeft, lineLeft, replayLeft, chained, chainLeft}
+use Rattle.cabinet.specs.Lists.{listLeft, candidatesLeft, wayAsked, foundBy, movesLeft, textLeft, tokenLeft}
+use Rattle.cabinet.specs.Values.{featureRoom, signatureLeft, priorityLeft, scoresLeft, numbersLeft, featuresLeft}
+use Rattle.cabinet.specs.Judged.{isAnswer}
+use Rattle.demands.specs.Calls.{Entry, examine, read, deal, move, replay, chain, moves, candidates, token, priority, scores, signature, features, capacity, judge}
+use Rattle.demands.specs.Calls.{boundary, Call, promise}
+use Rattle.demands.specs.Demand1.{isIn, hands, refusals, placeOf, Examined, Cleared, Demand1}
+use Rattle.demands.proofs.Refusing.{Refuses, by-test, asked-refuses, fine-refuses, board-refuses, image-refuses, deck-refuses, step-refuses, priority-refuses}
+use Rattle.demands.proofs.Crossing.{Keeps, hands-back, refuses, crosses, room-keeps, good-board, asked-good, kept}
+use Rattle.demands.proofs.Searching.{judge-keeps, searching, same-number, answered}
+
+-- ---- which numbers a line of moves ends with: 0, or 30 at a bad move
+
+bad-move : (n : ℕ) → isIn n (30 ∷ []) ≡ true → hands replay n ≡ true
+bad-move n h = by (eqb n 30) h
+  where
+    by : (b : Bool) → (b || false) ≡ true → (eqb n 0 || b) ≡ true
+    by true q = or-true (eqb n 0)
+    by false q = true-or-not false q refl
+
+line-hands : (rs : List (List ℕ)) (b : Board) → hands replay (told (lineFrom b rs .verdict)) ≡ true
+unfolding lineFrom
+line-hands [] b = refl
+line-hands (r ∷ rs) b = by-step (stepped b r) (step-refuses (30 ∷ []) refl b r) (line-hands rs)
+  where
+    by-step : (a : Answer Board) → Refuses (30 ∷ []) a → ((c : Board) → hands replay (told (lineFrom c rs .verdict)) ≡ true)
+        → hands replay (told (goOn b a (λ c. lineFrom c rs) .verdict)) ≡ true
+    by-step (given c) h on = on c
+    by-step (refused n) h on = bad-move n h
+
+-- an answer that ends a replay so
+abbrev EndsAs : Answer Ending → Type 0
+EndsAs (given x) = hands replay (told (x .verdict)) ≡ true
+EndsAs (refused n) = Unit {0}
+
+-- or the chain, which nothing stops
+abbrev EndsWell : Answer Ending → Type 0
+EndsWell (given x) = hands chain (told (x .verdict)) ≡ true
+EndsWell (refused n) = Unit {0}
+
+-- a kind that is none is 30
+way-refuses : (ns : List ℕ) → isIn 30 ns ≡ true → (t : Table) (kind : ℕ) → Refuses ns (foundBy t (wayAsked kind))
+unfolding wayAsked
+way-refuses ns h t kind =
+    by (wayAsked kind) (kinds (eqb kind 1) (eqb kind 2) (eqb kind 3) (eqb kind 4) (eqb kind 5) (eqb kind 6))
+  where
+    kinds : (a b c d e f : Bool)
+        → Refuses ns (cond a (given ColumnToColumn) (cond b (given ColumnToHome) (cond c (given ColumnToCell) (cond d (given CellToColumn) (cond e (given CellToHome) (cond f (given HomeToColumn) (refused 30)))))))
+    kinds true b c d e f = tt
+    kinds false true c d e f = tt
+    kinds false false true d e f = tt
+    kinds false false false true e f = tt
+    kinds false false false false true f = tt
+    kinds false false false false false true = tt
+    kinds false false false false false false = h
+
+    by : (a : Answer Way) → Refuses ns a → Refuses ns (foundBy t a)
+    by (given w) r = tt
+    by (refused n) r = r
+
+-- ---- the functions, one by one
+
+abbrev Kept : (e : Entry) → Call e → Type 0
+Kept e c = Keeps (hands e) (refusals e) (Examined e c) (c .before) (promise e (c .input) (c .before))
+
+examine-keeps : (c : Call examine) → Kept examine c
+unfolding all
+examine-keeps c = by (asked (c .input) examined) refl
+  where
+    by : (v : Verdict) → asked (c .input) examined ≡ v → Keeps (hands examine) (refusals examine) (Examined examine c) (c .before) (left (told v) (c .before))
+    by (given u) e =
+        let t = given-by (eqb (length (c .input)) boardRoom) 12 _ e in
+        hands-back refl refl (good-board (c .input) (eqb-true (length (c .input)) 432 (t .0)) (t .1))
+    by (refused n) e = refuses refl (subst (Refuses (refusals examine)) e (asked-refuses (refusals examine) refl refl refl refl (c .input) examined (board-refuses (refusals examine) refl refl refl refl)))
+
+read-keeps : (c : Call read) → Kept read c
+unfolding readLeft boardLeft all
+read-keeps c =
+    room-keeps refl boardRoom (length (c .before)) (imageRead (c .input)) _ refl (image-refuses (refusals read) refl refl refl refl refl refl (c .input))
+    (λ b e. (refl, record { board = b; reads = e }))
+
+deal-keeps : (c : Call deal) → Kept deal c
+unfolding dealLeft boardLeft all
+deal-keeps c =
+    room-keeps refl boardRoom (length (c .before)) (dealAsked (c .input)) _ refl (deck-refuses (refusals deal) refl refl refl (c .input))
+    (λ b e. (refl, record { board = b; deals = e }))
+
+move-keeps : (c : Call move) → Kept move c
+unfolding moveLeft boardLeft moveMade all
+move-keeps c =
+    let question : Board → Answer Board = λ b. stepped b (c .input .1) in
+    room-keeps refl boardRoom (length (c .before)) _ _ refl
+    (fine-refuses (refusals move) refl refl refl refl (c .input .0) question (λ b. step-refuses (refusals move) refl b (c .input .1)))
+    (λ x e. (refl, asked-good x (c .input .0) question e .0))
+
+replay-keeps : (c : Call replay) → Kept replay c
+unfolding replayLeft lineLeft all
+replay-keeps c =
+    let list = c .input .1 in
+    let question : Board → Answer Ending = λ b. unless (isLine list) 31 (given (lineFrom b (recordsIn list))) in
+    room-keeps refl boardRoom (length (c .before .0)) _ _ refl
+    (fine-refuses (refusals replay) refl refl refl refl (c .input .0) question (λ b. by-test (refusals replay) (isLine list) 31 (given (lineFrom b (recordsIn list))) refl tt))
+    (λ x e.
+    let good = asked-good x (c .input .0) question e in
+    let line = given-by (isLine list) 31 (given (lineFrom (boardIn (c .input .0)) (recordsIn list))) (good .1) in
+    (subst (λ (a : Answer Ending). EndsAs a) (line .1) (line-hands (recordsIn list) (boardIn (c .input .0))), good .0))
+
+chain-keeps : (c : Call chain) → Kept chain c
+unfolding chainLeft lineLeft chained all
+chain-keeps c =
+    let question : Board → Answer Ending = λ b. given (chained b) in
+    room-keeps refl boardRoom (length (c .before .0)) _ _ refl (fine-refuses (refusals chain) refl refl refl refl (c .input) question (λ b. tt))
+    (λ x e.
+    let good = asked-good x (c .input) question e in
+    (subst (λ (a : Answer Ending). EndsWell a) (good .1) refl, good .0))
+
+moves-keep : (c : Call moves) → Kept moves c
+unfolding movesLeft listLeft all
+moves-keep c =
+    let question : Board → Answer (List Move) = λ b. foundBy (shown b) (wayAsked (c .input .1)) in
+    room-keeps refl recordRoom (length (c .before .0)) _ _ refl
+    (fine-refuses (refusals moves) refl refl refl refl (c .input .0) question (λ b. way-refuses (refusals moves) refl (shown b) (c .input .1)))
+    (λ x e. (refl, asked-good x (c .input .0) question e .0))
+
+candidates-keep : (c : Call candidates) → Kept candidates c
+unfolding candidatesLeft listLeft all
+candidates-keep c =
+    let question : Board → Answer (List Move) = λ b. given (tried (shown b)) in
+    room-keeps refl recordRoom (length (c .before .0)) _ _ refl (fine-refuses (refusals candidates) refl refl refl refl (c .input) question (λ b. tt))
+    (λ x e. (refl, asked-good x (c .input) question e .0))
+
+token-keeps : (c : Call token) → Kept token c
+unfolding tokenLeft textLeft all
+token-keeps c =
+    let question : Board → Answer (List ℕ) = λ b. given (tokenOf (featuresOf (shown b))) in
+    room-keeps refl tokenRoom (length (c .before .0)) _ _ refl (fine-refuses (refusals token) refl refl refl refl (c .input) question (λ b. tt))
+    (λ x e. (refl, asked-good x (c .input) question e .0))
+
+priority-keeps : (c : Call priority) → Kept priority c
+unfolding priorityLeft priorityAsked all
+priority-keeps c =
+    let question : Board → Answer ℤ = λ b. priorityBy (shown b) (moveAsked (c .input .1)) in
+    crosses refl _ _ (fine-refuses (refusals priority) refl refl refl refl (c .input .0) question (λ b. priority-refuses (refusals priority) refl (shown b) (c .input .1)))
+    (λ x e. (refl, asked-good x (c .input .0) question e .0))
+
+scores-keep : (c : Call scores) → Kept scores c
+unfolding scoresLeft featuresAsked all
+scores-keep c =
+    let question : Board → Answer Features = λ b. given (featuresOf (shown b)) in
+    crosses refl _ _ (fine-refuses (refusals scores) refl refl refl refl (c .input) question (λ b. tt)) (λ x e. (refl, asked-good x (c .input) question e .0))
+
+signature-keeps : (c : Call signature) → Kept signature c
+unfolding signatureLeft signatureAsked all
+signature-keeps c =
+    let question : Board → Answer ℕ = λ b. given (signatureOf (shown b)) in
+    crosses refl _ _ (fine-refuses (refusals signature) refl refl refl refl (c .input) question (λ b. tt)) (λ x e. (refl, asked-good x (c .input) question e .0))
+
+features-keep : (c : Call features) → Kept features c
+unfolding featuresLeft numbersLeft featuresAsked all
+features-keep c =
+    let question : Board → Answer Features = λ b. given (featuresOf (shown b)) in
+    room-keeps refl featureRoom (length (c .before)) _ _ refl (fine-refuses (refusals features) refl refl refl refl (c .input) question (λ b. tt))
+    (λ x e. (refl, asked-good x (c .input) question e .0))
+
+capacity-keeps : (c : Call capacity) → Kept capacity c
+unfolding all
+capacity-keeps c = hands-back refl refl tt
+
+every-keeps : (e : Entry) (c : Call e) → Kept e c
+every-keeps examine c = examine-keeps c
+every-keeps read c = read-keeps c
+every-keeps deal c = deal-keeps c
+every-keeps move c = move-keeps c
+every-keeps replay c = replay-keeps c
+every-keeps chain c = chain-keeps c
+every-keeps moves c = moves-keep c
+every-keeps candidates c = candidates-keep c
+every-keeps token c = token-keeps c
+every-keeps priority c = priority-keeps c
+every-keeps scores c = scores-keep c
+every-keeps signature c = signature-keeps c
+every-keeps features c = features-keep c
+every-keeps capacity c = capacity-keeps c
+every-keeps judge c = judge-keeps c
+
+-- ---- the list of them
+
+listed-at : (e : Entry) → getD boundary (placeOf e) judge ≡ e
+unfolding boundary
+listed-at examine = refl
+listed-at read = refl
+listed-at deal = refl
+listed-at move = refl
+listed-at replay = refl
+listed-at chain = refl
+listed-at moves = refl
+listed-at candidates = refl
+listed-at token = refl
+listed-at priority = refl
+listed-at scores = refl
+listed-at signature = refl
+listed-at features = refl
+listed-at capacity = refl
+listed-at judge = refl
+
+listed-all : length boundary ≡ 15
+unfolding boundary
+listed-all = refl
+
+-- ---- the search's scratch
+
+module _ (c : Call judge) (a : isAnswer (c .number) ≡ true) where
+  scratch-clears : Cleared c
+  unfolding searching
+  scratch-clears =
+      let k = answer-clears (searching c (c .input .board) refl a) (answered c (c .input .board) refl a) in
+      record { nodes = k .nodes; heap = k .heap; keys = k .keys; costs = k .costs }
+
+  list-stays : c .number ≡ 23 → c .after .list ≡ c .before .list
+  unfolding searching
+  list-stays e =
+      let n = same-number c (c .input .board) refl a in
+      T1-none (searching c (c .input .board) refl a) (omega arith) .same
+
+same-end : {e : Entry} (x y : Call e) → x .input ≡ y .input → x .before ≡ y .before → left (x .number) (x .after) ≡ left (y .number) (y .after)
+same-end {e} x y p q = x .keeps ∙ ap₂ (promise e) p q ∙ sym (y .keeps)
+
+pub demand1 : Demand1
+demand1 =
+    record {
+      oneEnd = λ x y p q. let s = same-end x y p q in record { number = ap (λ l. l .number) s; after = ap (λ l. l .places) s };
+      fifteen = listed-all;
+      all = listed-at;
+      examines = λ {e} c. kept e c (every-keeps e c) .examines;
+      numbered = λ {e} c. kept e c (every-keeps e c) .numbered;
+      keeps = λ {e} c. kept e c (every-keeps e c) .keeps;
+      clears = scratch-clears;
+      noRoom = λ c e. list-stays c (ap isAnswer e) e;
+    }

@@ -1,0 +1,10 @@
+-- The three demands hold: `demand1`, `demand2`, `demand3`.
+pub mod Examples
+pub mod Refusing
+pub mod Crossing
+pub mod Searching
+pub mod Hashing
+pub mod Replaying
+pub mod Demand1
+pub mod Demand2
+pub mod Demand3

@@ -1,0 +1,171 @@
+-- The list that a search brought, given to corbelnib_replay: it ends well, on the board after its last move.
+use mathlib.Core.Path.{_≡_, refl, sym, ap, ap₂, _∙_, subst}
+use mathlib.Core.Bool.{Bool, true, _||_}
+use mathlib.Core.List.{List, [], _∷_, _++_}
+use Prim.Native.Nat.{ℕ, _*_, _%_, _≤_}
+use native.Mathlib.Omega.{arith}
+use borrow.Author.Tests.{le-leb, leb-true}
+use lib.Dec.{eqb, leb}
+use lib.ListN.{length, take, drop}
+use lib.Seq.{take-at, drop-at}
+use Rattle.card.specs.Answer.{Answer, given, unless}
+use Rattle.board.specs.Table.{Table}
+use Rattle.board.specs.Judged.{fine}
+use Rattle.board.specs.Record.{shapely, shown, boardOf}
+use Rattle.board.specs.Fair.{Fair}
+use Rattle.board.specs.Inner.{Sound}
+use Rattle.board.specs.declared.Board.{Board}
+use Rattle.board.proofs.Soundness.{sound-shape, sound-sized}
+use Rattle.board.proofs.Records.{shown-of-record}
+use Rattle.board.proofs.Fair.{fair-laid, fair-sound}
+use Rattle.questions.specs.Questions.{wonOn}
+use Rattle.moves.specs.Record.{recordOf}
+use Rattle.moves.specs.declared.Move.{Move}
+use Rattle.replay.specs.Line.{Ending, lineFrom, recordsIn, isLine}
+use Rattle.replay.specs.Played.{afterMoves, recordsOf}
+use Rattle.replay.proofs.Lining.{records-none, records-first}
+use Rattle.replay.proofs.Replaying.{a-line}
+use Rattle.replay.proofs.Legal.{legal-fair}
+use Rattle.generate.specs.Asked.{bytesOf}
+use Rattle.generate.proofs.Writing.{record-long, bytes-long}
+use Rattle.score.specs.Asked.{over}
+use Rattle.solver.specs.Told.{HandsOver}
+use Rattle.solver.proofs.Calls as calls
+use Rattle.cabinet.specs.Wire.{boardRoom, boardIn}
+use Rattle.cabinet.specs.Wire as wire
+use Rattle.cabinet.specs.Crossing.{Left, left}
+use Rattle.cabinet.specs.Boards.{lineLeft, replayLeft}
+use Rattle.cabinet.specs.Judged.{isAnswer}
+use Rattle.cabinet.proofs.Handing.{line-yes}
+use Rattle.cabinet.proofs.Returning as returning
+use Rattle.demands.specs.Calls.{replay, judge, Call, GoodBoard}
+use Rattle.demands.specs.Demand2.{Replays, tableIn, bringsList, handed, endOf}
+use Rattle.demands.proofs.Crossing.{good-asked}
+use Rattle.demands.proofs.Searching.{good-search, searching, same-number, sized}
+
+-- ---- the bytes of a list are its records
+
+records-are : (ms : List Move) → recordsIn (bytesOf ms) ≡ recordsOf ms
+unfolding bytesOf recordsOf
+records-are [] = records-none [] (omega arith)
+records-are (m ∷ ms) =
+    let five = record-long m in
+    let all = bytes-long (m ∷ ms) in
+    records-first (recordOf m ++ bytesOf ms) (omega arith)
+    ∙ ap₂ (λ (r : List ℕ) (rs : List (List ℕ)). r ∷ rs)
+    (take-at (recordOf m) (bytesOf ms) 5 five)
+    (ap recordsIn (drop-at (recordOf m) (bytesOf ms) 5 five) ∙ records-are ms)
+
+is-line : (ms : List Move) → length ms ≤ 200 → isLine (bytesOf ms) ≡ true
+is-line ms h = let l = bytes-long ms in a-line (bytesOf ms) (omega arith) (omega arith)
+
+-- ---- a board at the start of lent room
+
+over-first : (new old : List ℕ) (n : ℕ) → length new ≡ n → take n (over new old) ≡ new
+unfolding over
+over-first new old n e = take-at new (drop (length new) old) n e
+
+module _ (t : Table) (f : Fair t) (room : List ℕ) where
+  abbrev laid : List ℕ
+  laid = take boardRoom (over (wire.bytesOf (boardOf t)) room)
+
+  record-sound : Sound (boardOf t)
+  record-sound = fair-sound t f
+
+  laid-is : laid ≡ wire.bytesOf (boardOf t)
+  laid-is = over-first (wire.bytesOf (boardOf t)) room boardRoom (returning.bytes-long (boardOf t) (sound-sized record-sound))
+
+  laid-board : boardIn laid ≡ boardOf t
+  laid-board = ap boardIn laid-is ∙ returning.board-back (boardOf t) (sound-sized record-sound)
+
+  pub laid-table : tableIn laid ≡ t
+  laid-table = ap shown laid-board ∙ shown-of-record t (fair-laid t f)
+
+  pub laid-good : GoodBoard laid
+  laid-good =
+      record {
+        long = ap length laid-is ∙ returning.bytes-long (boardOf t) (sound-sized record-sound);
+        shape = subst (λ (b : Board). shapely b ≡ true) (sym laid-board) (sound-shape record-sound);
+        fair = subst Fair (sym laid-table) f;
+      }
+
+-- ---- the replay
+
+pub brought-answer : (n : ℕ) → leb n 2 ≡ true → isAnswer n ≡ true
+brought-answer n e = let h = leb-true n 2 e in ap (λ (b : Bool). b || eqb n 23) (le-leb n 4 (omega arith))
+
+module _ (c : Call judge) (brought : bringsList (c .number) ≡ true) where
+  abbrev answers : isAnswer (c .number) ≡ true
+  answers = brought-answer (c .number) brought
+
+  -- the list that was brought plays
+  pub list-of : HandsOver (searching c (c .input .board) refl answers)
+  list-of =
+      let s = searching c (c .input .board) refl answers in
+      let n = same-number c (c .input .board) refl answers in
+      let h = leb-true (c .number) 2 brought in
+      calls.T1 s (sized c (c .input .board) refl answers) (omega arith)
+
+  -- the table after it
+  abbrev pub last : Table
+  last = afterMoves (tableIn (c .input .board)) (list-of .moves)
+
+  pub last-fair : Fair last
+  last-fair =
+      legal-fair (list-of .moves) (tableIn (c .input .board)) (good-search c (c .input .board) refl answers .board .fair) (list-of .plays .legal)
+
+  pub many : c .after .moves ≡ length (list-of .moves)
+  unfolding searching
+  many = list-of .many
+
+  pub handed-are : handed c ≡ bytesOf (list-of .moves)
+  unfolding searching
+  handed-are = list-of .bytes
+
+module _ (c : Call judge) (r : Call replay) (p : Replays c r) where
+  abbrev moved : List Move
+  moved = list-of c (p .brought) .moves
+
+  abbrev ending : Ending
+  ending = record { verdict = fine; moves = length moved; board = boardOf (last c (p .brought)) }
+
+  line-is : (b : Board) → b ≡ boardIn (c .input .board) → unless (isLine (r .input .1)) 31 (given (lineFrom b (recordsIn (r .input .1)))) ≡ given ending
+  line-is b e =
+      let list = p .list ∙ handed-are c (p .brought) in
+      let plays = list-of c (p .brought) .plays in
+      ap (λ (l : List ℕ). unless (isLine l) 31 (given (lineFrom b (recordsIn l)))) list
+      ∙ ap (λ (ok : Bool). unless ok 31 (given (lineFrom b (recordsIn (bytesOf moved))))) (is-line moved (plays .short))
+      ∙ ap (λ (rs : List (List ℕ)). given (lineFrom b rs)) (records-are moved)
+      ∙ ap (λ (x : Board). given (lineFrom x (recordsOf moved))) e
+      ∙ ap (λ (x : Ending). given x) (plays .replays)
+
+  pub replay-is : left (r .number) (r .after) ≡ left {A = List ℕ × ℕ} 0 (over (wire.bytesOf (boardOf (last c (p .brought)))) (r .before .0), length moved)
+  unfolding replayLeft
+  replay-is =
+      let good = subst GoodBoard (sym (p .board)) (good-search c (c .input .board) refl (brought-answer (c .number) (p .brought)) .board) in
+      r .keeps
+      ∙ ap (λ (a : Answer Ending). lineLeft a (r .before .0) (r .before .1))
+      (good-asked (λ b. unless (isLine (r .input .1)) 31 (given (lineFrom b (recordsIn (r .input .1))))) good
+      ∙ line-is (boardIn (r .input .0)) (ap boardIn (p .board)))
+      ∙ sym (line-yes ending (r .before .0) (r .before .1) (p .room) refl refl)
+
+  pub replay-number : r .number ≡ 0
+  replay-number = ap (λ (l : Left (List ℕ × ℕ)). l .number) replay-is
+
+  pub replay-many : r .after .1 ≡ c .after .moves
+  replay-many = ap (λ (l : Left (List ℕ × ℕ)). l .places .1) replay-is ∙ sym (many c (p .brought))
+
+  end-is : endOf r ≡ take boardRoom (over (wire.bytesOf (boardOf (last c (p .brought)))) (r .before .0))
+  end-is = ap (λ (l : Left (List ℕ × ℕ)). take boardRoom (l .places .0)) replay-is
+
+  pub end-good : GoodBoard (endOf r)
+  end-good = subst GoodBoard (sym end-is) (laid-good (last c (p .brought)) (last-fair c (p .brought)) (r .before .0))
+
+  pub end-table : tableIn (endOf r) ≡ last c (p .brought)
+  end-table = ap tableIn end-is ∙ laid-table (last c (p .brought)) (last-fair c (p .brought)) (r .before .0)
+
+  pub end-won : c .number ≡ 0 → wonOn (tableIn (endOf r) .foundation) ≡ true
+  end-won e =
+      let answers = brought-answer (c .number) (p .brought) in
+      ap (λ (t : Table). wonOn (t .foundation)) end-table
+      ∙ list-of c (p .brought) .plays .wins (same-number c (c .input .board) refl answers ∙ e)

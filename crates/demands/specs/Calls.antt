@@ -1,0 +1,138 @@
+-- A call through the C boundary: what went in, the number that came back, and every lent place before and after.
+use mathlib.Core.Path.{_≡_}
+use mathlib.Core.Bool.{true}
+use mathlib.Core.List.{List, [], _∷_}
+use Prim.Native.Nat.{ℕ}
+use lib.IntN.{ℤ}
+use lib.ListN.{length}
+use Rattle.board.specs.Record.{shown, shapely, examined}
+use Rattle.board.specs.Fair.{Fair}
+use Rattle.solver.specs.Capacity.{capacityOf}
+use Rattle.solver.specs.Searched.{Outcome}
+use Rattle.cabinet.specs.Wire.{boardRoom, boardIn}
+use Rattle.cabinet.specs.Crossing.{Left, left, told, asked}
+use Rattle.cabinet.specs.Boards.{readLeft, dealLeft, moveLeft, replayLeft, chainLeft}
+use Rattle.cabinet.specs.Lists.{movesLeft, candidatesLeft, tokenLeft}
+use Rattle.cabinet.specs.Values.{priorityLeft, scoresLeft, signatureLeft, featuresLeft}
+use Rattle.cabinet.specs.Judged.{judgeLeft}
+
+-- the functions that C can call: corbelnib_examine, corbelnib_read, ..
+pub data Entry : Type 0 where
+  examine : Entry
+  read : Entry
+  deal : Entry
+  move : Entry
+  replay : Entry
+  chain : Entry
+  moves : Entry
+  candidates : Entry
+  token : Entry
+  priority : Entry
+  scores : Entry
+  signature : Entry
+  features : Entry
+  capacity : Entry
+  judge : Entry
+
+-- all of them (tools/boundary.sh holds this list against the code and the header)
+unfoldable pub boundary : List Entry
+boundary =
+    examine ∷ read ∷ deal ∷ move ∷ replay ∷ chain ∷ moves ∷ candidates ∷ token ∷ priority ∷ scores ∷ signature ∷ features ∷ capacity ∷ judge ∷ []
+
+-- ---- what goes in, and what is lent
+
+-- the search is asked about a board, with a budget, and whether a best-progress list is allowed (0 is no)
+pub record Question : Type 0 where
+  pub board : List ℕ
+  pub budget : ℕ
+  pub partial : ℕ
+
+-- what is lent to the search: four parts of scratch, the list buffer, and the places where pops and moves are told
+pub record Lent : Type 0 where
+  pub nodes : List ℕ
+  pub heap : List ℕ
+  pub keys : List ℕ
+  pub costs : List ℕ
+  pub list : List ℕ
+  pub pops : ℕ
+  pub moves : ℕ
+
+-- a board, an image or a deck; a board and a record or a list; a board and a kind; four lengths; a question
+abbrev pub In : Entry → Type 0
+In examine = List ℕ
+In read = List ℕ
+In deal = List ℕ
+In move = List ℕ × List ℕ
+In replay = List ℕ × List ℕ
+In chain = List ℕ
+In moves = List ℕ × ℕ
+In candidates = List ℕ
+In token = List ℕ
+In priority = List ℕ × List ℕ
+In scores = List ℕ
+In signature = List ℕ
+In features = List ℕ
+In capacity = ℕ × (ℕ × (ℕ × ℕ))
+In judge = Question
+
+-- nothing; room; room and the place of a count; places of scores or of a signature; the search's
+abbrev pub Places : Entry → Type 0
+Places examine = Unit {0}
+Places read = List ℕ
+Places deal = List ℕ
+Places move = List ℕ
+Places replay = List ℕ × ℕ
+Places chain = List ℕ × ℕ
+Places moves = List ℕ × ℕ
+Places candidates = List ℕ × ℕ
+Places token = List ℕ × ℕ
+Places priority = ℤ
+Places scores = ℤ × ℤ
+Places signature = ℕ
+Places features = List ℕ
+Places capacity = Unit {0}
+Places judge = Lent
+
+-- ---- what each function promises in crates/cabinet/src/lib.rt: its number and every lent place, from what went in and what lay there
+
+abbrev pub searchLeft : Outcome → Left Lent
+searchLeft o =
+    left (o .number) (record { nodes = o .nodes; heap = o .heap; keys = o .keys; costs = o .costs; list = o .list; pops = o .pops; moves = o .moves })
+
+abbrev pub promise : (e : Entry) → In e → Places e → Left (Places e)
+promise examine board u = left (told (asked board examined)) u
+promise read image room = readLeft image room
+promise deal deck room = dealLeft deck room
+promise move i room = moveLeft (i .0) (i .1) room
+promise replay i l = replayLeft (i .0) (i .1) (l .0) (l .1)
+promise chain board l = chainLeft board (l .0) (l .1)
+promise moves i l = movesLeft (i .0) (i .1) (l .0) (l .1)
+promise candidates board l = candidatesLeft board (l .0) (l .1)
+promise token board l = tokenLeft board (l .0) (l .1)
+promise priority i p = priorityLeft (i .0) (i .1) p
+promise scores board l = scoresLeft board (l .0) (l .1)
+promise signature board s = signatureLeft board s
+promise features board room = featuresLeft board room
+promise capacity i u = left (capacityOf (i .0) (i .1 .0) (i .1 .1 .0) (i .1 .1 .1)) u
+promise judge q l =
+    searchLeft (judgeLeft (l .nodes) (l .heap) (l .keys) (l .costs) (l .list) (l .pops) (l .moves) (q .board) (q .budget) (q .partial))
+
+-- one call, with its promise
+pub record Call (e : Entry) : Type 0 where
+  pub input : In e
+  pub before : Places e
+  pub number : ℕ
+  pub after : Places e
+  pub keeps : left number after ≡ promise e input before
+
+-- ---- words for both sides of a call
+
+-- bytes that are a well-formed board: 432 of them, of good shape, showing a fair table
+pub record GoodBoard (bytes : List ℕ) : Type 0 where
+  pub long : length bytes ≡ boardRoom
+  pub shape : shapely (boardIn bytes) ≡ true
+  pub fair : Fair (shown (boardIn bytes))
+
+-- how many nodes the lent scratch holds
+abbrev pub capacityIn : Lent → ℕ
+capacityIn l = capacityOf (length (l .nodes)) (length (l .heap)) (length (l .keys)) (length (l .costs))

@@ -1,0 +1,147 @@
+-- Demand 1, sentence by sentence: "Nothing traps, nothing runs on."
+-- That every call comes back, without a trap, and keeps its promise, is what is proved of the code: no function of
+-- crates/cabinet/src/lib.rt asks anything of its caller (`requires`), and each is proved to end. What the promises say is here.
+use mathlib.Core.Path.{_≡_}
+use mathlib.Core.Bool.{Bool, true, false, _||_}
+use mathlib.Core.List.{List, [], _∷_, _++_}
+use Prim.Native.Nat.{ℕ, _≤_}
+use lib.Dec.{eqb}
+use lib.ListN.{length, getD}
+use Rattle.card.specs.Answer.{given}
+use Rattle.board.specs.declared.Board.{Board}
+use Rattle.intake.specs.Image.{imageRead}
+use Rattle.intake.specs.Deal.{dealAsked}
+use Rattle.blank.specs.Blank.{blank}
+use Rattle.cabinet.specs.Judged.{isAnswer}
+use Rattle.demands.specs.Calls.{Entry, examine, read, deal, move, replay, chain, moves, candidates, token, priority, scores, signature, features, capacity, judge}
+use Rattle.demands.specs.Calls.{boundary, Call, GoodBoard, capacityIn}
+
+-- ---- document 01's numbers
+
+abbrev pub isIn : ℕ → List ℕ → Bool
+isIn n [] = false
+isIn n (m ∷ l) = eqb n m || isIn n l
+
+-- of a board that is not well formed
+abbrev pub boards : List ℕ
+boards = 12 ∷ 13 ∷ 14 ∷ 15 ∷ []
+
+-- the refusals of each function; corbelnib_capacity tells a count and refuses nothing
+abbrev pub refusals : Entry → List ℕ
+refusals examine = boards
+refusals read = 10 ∷ 11 ∷ 12 ∷ 13 ∷ 14 ∷ 15 ∷ 21 ∷ []
+refusals deal = 16 ∷ 13 ∷ 14 ∷ 21 ∷ []
+refusals move = boards ++ (30 ∷ 21 ∷ [])
+refusals replay = boards ++ (31 ∷ 21 ∷ [])
+refusals chain = boards ++ (21 ∷ [])
+refusals moves = boards ++ (30 ∷ 21 ∷ [])
+refusals candidates = boards ++ (21 ∷ [])
+refusals token = boards ++ (21 ∷ [])
+refusals priority = boards ++ (30 ∷ [])
+refusals scores = boards
+refusals signature = boards
+refusals features = boards ++ (21 ∷ [])
+refusals capacity = []
+refusals judge = boards ++ (20 ∷ 21 ∷ 22 ∷ [])
+
+-- the numbers with which a function hands something back. A replay that meets a bad move (30) tells its place
+-- and the board before it; a search without node room (23) tells its pops.
+abbrev pub hands : Entry → ℕ → Bool
+hands examine n = eqb n 0
+hands read n = eqb n 0
+hands deal n = eqb n 0
+hands move n = eqb n 0
+hands replay n = eqb n 0 || eqb n 30
+hands chain n = eqb n 0
+hands moves n = eqb n 0
+hands candidates n = eqb n 0
+hands token n = eqb n 0
+hands priority n = eqb n 0
+hands scores n = eqb n 0
+hands signature n = eqb n 0
+hands features n = eqb n 0
+hands capacity n = true
+hands judge n = isAnswer n
+
+-- ---- what a function must have found when it hands something back
+
+pub record IsImage (bytes : List ℕ) : Type 0 where
+  pub board : Board
+  pub reads : imageRead bytes ≡ given board
+
+pub record IsDeck (bytes : List ℕ) : Type 0 where
+  pub board : Board
+  pub deals : dealAsked bytes ≡ given board
+
+-- a search: a well-formed board, a budget of at most 1,000,000, a list buffer of 1,000 bytes, room for the root
+pub record GoodSearch (c : Call judge) : Type 0 where
+  pub board : GoodBoard (c .input .board)
+  pub budget : c .input .budget ≤ 1000000
+  pub list : 1000 ≤ length (c .before .list)
+  pub root : 1 ≤ capacityIn (c .before)
+
+abbrev pub Examined : (e : Entry) → Call e → Type 0
+Examined examine c = GoodBoard (c .input)
+Examined read c = IsImage (c .input)
+Examined deal c = IsDeck (c .input)
+Examined move c = GoodBoard (c .input .0)
+Examined replay c = GoodBoard (c .input .0)
+Examined chain c = GoodBoard (c .input)
+Examined moves c = GoodBoard (c .input .0)
+Examined candidates c = GoodBoard (c .input)
+Examined token c = GoodBoard (c .input)
+Examined priority c = GoodBoard (c .input .0)
+Examined scores c = GoodBoard (c .input)
+Examined signature c = GoodBoard (c .input)
+Examined features c = GoodBoard (c .input)
+Examined capacity c = Unit {0}
+Examined judge c = GoodSearch c
+
+-- ---- how a call ends
+
+-- two calls end alike: the same number, the same in every lent place
+pub record SameEnd {e : Entry} (x y : Call e) : Type 0 where
+  pub number : x .number ≡ y .number
+  pub after : x .after ≡ y .after
+
+-- every lent word of the scratch is 0
+pub record Cleared (c : Call judge) : Type 0 where
+  pub nodes : c .after .nodes ≡ blank (c .before .nodes)
+  pub heap : c .after .heap ≡ blank (c .before .heap)
+  pub keys : c .after .keys ≡ blank (c .before .keys)
+  pub costs : c .after .costs ≡ blank (c .before .costs)
+
+-- which of the fifteen a function is
+abbrev pub placeOf : Entry → ℕ
+placeOf examine = 0
+placeOf read = 1
+placeOf deal = 2
+placeOf move = 3
+placeOf replay = 4
+placeOf chain = 5
+placeOf moves = 6
+placeOf candidates = 7
+placeOf token = 8
+placeOf priority = 9
+placeOf scores = 10
+placeOf signature = 11
+placeOf features = 12
+placeOf capacity = 13
+placeOf judge = 14
+
+pub record Demand1 : Type 0 where
+  -- "Nothing traps, nothing runs on. No board image, deck, move, list, budget or lent memory makes it trap": whatever goes in and
+  -- whatever lies in the lent places, there is one end
+  pub oneEnd : {e : Entry} (x y : Call e) → x .input ≡ y .input → x .before ≡ y .before → SameEnd x y
+  -- "Every entry point ..": these fifteen
+  pub fifteen : length boundary ≡ 15
+  pub all : (e : Entry) → getD boundary (placeOf e) judge ≡ e
+  -- ".. examines what it gets": a function that hands something back was given what document 01 asks for
+  pub examines : {e : Entry} (c : Call e) → hands e (c .number) ≡ true → Examined e c
+  -- "a refusal returns its number from document 01": a number with which nothing is handed back is one of the function's refusals
+  pub numbered : {e : Entry} (c : Call e) → (hands e (c .number) || isIn (c .number) (refusals e)) ≡ true
+  -- "and changes nothing lent"
+  pub keeps : {e : Entry} (c : Call e) → hands e (c .number) ≡ false → c .after ≡ c .before
+  -- "(running out of node room clears the scratch)", and so do the answers; out of room, the list buffer stays
+  pub clears : (c : Call judge) → isAnswer (c .number) ≡ true → Cleared c
+  pub noRoom : (c : Call judge) → c .number ≡ 23 → c .after .list ≡ c .before .list

@@ -1,0 +1,56 @@
+#!/bin/sh
+# Lists the files that have to be believed: what the contracts of the C functions and the three demands import, in reading order, each
+# with its head line; then the types of the code that they name.
+# tools/reading.sh prints the list; tools/reading.sh --check fails if docs/READING.md does not hold it.
+set -eu
+cd "$(dirname "$0")/.."
+
+# the modules of specs/ that a file names, as CRATE/MODULE (CRATE/declared.TYPE for a type of the code)
+imports() { # FILE
+    sed -n 's/^\(ghost \)\{0,1\}use Rattle·\([a-z_]*\)\(·specs\)\{0,1\}\.specs\.\(declared\.[A-Za-z0-9]*\).*/\2\/\4/p
+        s/^\(ghost \)\{0,1\}use Rattle·\([a-z_]*\)\(·specs\)\{0,1\}\.specs\.\([A-Z][A-Za-z0-9]*\).*/\2\/\4/p' "$1"
+}
+
+seen=" "
+todo=$(imports crates/cabinet/src/lib.rt
+    for file in crates/demands/specs/*.antt; do
+        name=${file##*/}
+        [ "$name" = Lib.antt ] || echo "demands/${name%.antt}"
+    done)
+while [ -n "$todo" ]; do
+    next=
+    for module in $todo; do
+        case $seen in *" $module "*) continue ;; esac
+        seen="$seen$module "
+        case $module in
+        */declared.*) ;;
+        *) next="$next $(imports "crates/${module%/*}/specs/${module#*/}.antt")" ;;
+        esac
+    done
+    todo=$(echo $next)
+done
+
+list() {
+    for crate in $(sed -n 's/^\([a-z_]*\):.*/\1/p' crates.txt); do
+        for name in $(sed -n 's/^pub mod //p' "crates/$crate/specs/Lib.antt" 2>/dev/null); do
+            case $seen in
+            *" $crate/$name "*) echo "- crates/$crate/specs/$name.antt: $(sed -n '1s/^-- //p' "crates/$crate/specs/$name.antt")" ;;
+            esac
+        done
+    done
+    echo
+    for crate in $(sed -n 's/^\([a-z_]*\):.*/\1/p' crates.txt); do
+        types=$(for module in $seen; do echo "$module"; done | sed -n "s/^$crate\/declared\.//p" | sort | tr '\n' ' ')
+        [ -z "$types" ] || echo "- crates/$crate/src: ${types% }"
+    done
+}
+
+if [ "${1:-}" != --check ]; then
+    list
+    exit
+fi
+paper=$(sed -n '/^<!-- tools\/reading.sh -->$/,/^<!-- end -->$/p' docs/READING.md | sed '1d;$d')
+if [ "$paper" != "$(list)" ]; then
+    echo "docs/READING.md does not hold what tools/reading.sh lists" >&2
+    exit 1
+fi
