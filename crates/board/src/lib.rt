@@ -1,4 +1,4 @@
-// The board record and what a card player sees on it (after freecell/board.rs, first half).
+// The board record and what a card player sees on it (after freecell/board.rs, `FreeCellBoard`, changed: NOTICE).
 ghost use mathlib.Core.Path.{_≡_};
 ghost use Rattle.board.specs.Record.{examined};
 ghost use Rattle.board.specs.Refusal.{numberOf, examinedTold};

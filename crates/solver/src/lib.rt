@@ -1,4 +1,4 @@
-// The search in lent memory (after freecell/solver.rs, `solve_with_stats`).
+// The search in lent memory (after freecell/solver.rs, `solve_with_stats`, changed: NOTICE).
 ghost use mathlib.Core.Path.{_≡_};
 ghost use Prim.Native.Nat.{min, _≤_};
 ghost use lib.ListN.{length};
