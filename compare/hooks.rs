@@ -1,5 +1,6 @@
 
-// ---- Added by compare/make.sh to its copy of this file: what the original keeps to itself, for compare/scores.rs.
+// ---- Added by compare/make.sh to its copy of this file: what the original keeps to itself, for compare/scores.rs; at the end its
+// search told again for compare/texts.rs (after freecell/solver.rs, `solve_with_stats`, changed: NOTICE).
 
 pub fn hook_features(board: &FreeCellBoard) -> [i64; 7] {
     let f = compute_features(board);

@@ -12,7 +12,7 @@
 // room give; for each record 0 or the refusal, and the board (`=` if it is the given one); for the list 0 or the
 // refusal, how many moves were played, and the board. For a byte 2 a heading.
 //
-// Where the Rust cannot be asked (an impossible record, a list that is none) document 01's number stands.
+// Where the Rust cannot be asked (an impossible record, a list that is none) SCOPE.md's number stands.
 
 pub mod common {
     pub mod card;
@@ -53,7 +53,7 @@ fn run(board: &FreeCellBoard, source: usize, count: usize, card: Card) -> Vec<Ca
     cards
 }
 
-// The move of a record on a board, if the record is possible (document 01's sentence).
+// The move of a record on a board, if the record is possible (SCOPE.md's sentence).
 fn move_of(board: &FreeCellBoard, bytes: &[u8]) -> Option<FreeCellMove> {
     let [kind, from, to, count, code] = <[u8; 5]>::try_from(bytes).ok()?;
     let card = card_of(code)?;

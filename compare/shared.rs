@@ -23,7 +23,7 @@ impl Draws {
     }
 }
 
-// Document 01's code, which is not the Rust's `encode`.
+// SCOPE.md's code, which is not the Rust's `encode`.
 pub fn code(card: Card) -> u8 {
     card.value * 16 + card.suit as u8
 }
@@ -32,7 +32,7 @@ pub fn code_or_none(card: Option<Card>) -> u8 {
     card.map_or(255, code)
 }
 
-// Document 01's image of a board.
+// SCOPE.md's image of a board.
 pub fn image(board: &FreeCellBoard) -> Vec<u8> {
     let mut body = vec![1];
     body.extend(board.free_cells.iter().map(|&cell| code_or_none(cell)));
@@ -120,7 +120,7 @@ pub fn is_long(board: &FreeCellBoard) -> bool {
     board.tableau.iter().any(|column| column.len() > 7)
 }
 
-// Document 01's record of a move.
+// SCOPE.md's record of a move.
 pub fn record(step: &FreeCellMove) -> [u8; 5] {
     match step {
         FreeCellMove::TableauToTableau {

@@ -2,7 +2,7 @@
 // boards that nobody dealt.
 //
 // Run by compare/make.sh SOURCES, as scores.rs is. It takes two file names, the program's input and the expected output. The
-// first 17 inputs there and their texts are made by hand from document 01 and stay; what follows them is written anew.
+// first 17 inputs there and their texts are made by hand from SCOPE.md and stay; what follows them is written anew.
 //
 // Input: a two-byte count, the higher byte first, and an image, again and again. Output: the text, and a line of two dashes.
 

@@ -1,7 +1,9 @@
 /* Corbelnib: a FreeCell judge for controller programs.
  *
  * Link with libcabinet.a (README says how it is built). No function allocates, blocks, keeps anything between calls or traps;
- * each ends. Two threads may call at once if they lend different memory.
+ * each ends. Two threads may call at once if they lend different memory. The archive wants memcpy and memset from outside, and
+ * nothing else. Stack, measured on aarch64 and x86-64: corbelnib_judge 23 KB, corbelnib_candidates 15 KB, every other function under
+ * 3 KB (docs/MEMORY.md).
  *
  * What is lent: a pointer and then the number of elements behind it. A pointer is never NULL, points to as many elements as
  * are told (a length of 0 is taken) and is aligned for its type; no two lent parts of one call overlap, unless both are only
@@ -16,7 +18,8 @@
  * foundation, 3 column to cell, 4 cell to column, 5 cell to foundation, 6 foundation to column. Columns 0 to 7, cells 0 to 3,
  * suits 0 to 3; count is 1 except in kind 1; for kinds 2 and 5 `to` is the card's suit.
  *
- * What comes back is a number: 0 for done (corbelnib_judge: an answer, see there), else why the call was refused:
+ * What comes back is a number: 0 for done (corbelnib_judge: an answer, see there), else why the call was refused (docs/SCOPE.md
+ * has all of the numbers, and the rules of play):
  *
  *   10  image under 2 bytes, or its count differs from the bytes that follow
  *   11  no version byte, or not 1

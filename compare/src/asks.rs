@@ -1,4 +1,4 @@
-// Each question to our library, with any input at all: what has to come back by document 01 and the original, and whether it
+// Each question to our library, with any input at all: what has to come back by SCOPE.md and the original, and whether it
 // does: the number, and everything lent, byte for byte.
 use crate::codes::{bytes, hex, records, BOARD};
 use crate::draws::Draws;

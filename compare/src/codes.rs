@@ -1,4 +1,4 @@
-// The original's boards and moves in document 01's bytes, and back.
+// The original's boards and moves in SCOPE.md's bytes, and back.
 use crate::original::common::card::{Card, Suit};
 use crate::original::freecell::board::{FreeCellBoard, FreeCellMove};
 

@@ -20,7 +20,7 @@ pub mod freecell {
 
         use crate::gauge;
 
-        // In document 01's order: home, immediate, blocked, imbalance, used, empty, longest.
+        // In SCOPE.md's order: home, immediate, blocked, imbalance, used, empty, longest.
         pub fn features(board: &FreeCellBoard) -> [u64; 7] {
             let f = compute_features(board);
             [
@@ -58,7 +58,7 @@ pub mod freecell {
             }
         }
 
-        // What a search came to: document 01's number, the pops, the list, and how many nodes were made.
+        // What a search came to: SCOPE.md's number, the pops, the list, and how many nodes were made.
         #[derive(Clone, Debug)]
         pub struct Judged {
             pub number: u8,

@@ -1,5 +1,5 @@
-// Document 01's refusals, written from its text alone: what may be asked, and else the number that comes first in its order.
-// What is not refused is the original's to answer.
+// The scope's refusals (docs/SCOPE.md), written from the customer's text alone: what may be asked, and else the number that
+// comes first in its order. What is not refused is the original's to answer.
 use crate::codes::{self, BOARD, COLUMN, EMPTY};
 use crate::original::common::card::{Card, Suit};
 use crate::original::freecell::board::{FreeCellBoard, FreeCellMove};

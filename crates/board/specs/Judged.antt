@@ -9,7 +9,7 @@ use Rattle.card.specs.Card.{isCard}
 use Rattle.card.specs.Pack.{cardAt}
 use Rattle.board.specs.Table.{Table, cardsOn}
 
--- a verdict: fine, or refused with document 01's number
+-- a verdict: fine, or refused with SCOPE.md's number
 abbrev pub Verdict : Type 0
 Verdict = Answer (Unit {0})
 

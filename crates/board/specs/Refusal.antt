@@ -1,4 +1,4 @@
--- Document 01's number for each refusal, and what each case of an examination means.
+-- SCOPE.md's number for each refusal, and what each case of an examination means.
 use Prim.Native.Nat.{ℕ}
 use Rattle.card.specs.Answer.{refused}
 use Rattle.board.specs.Judged.{Verdict, fine}

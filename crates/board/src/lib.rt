@@ -1,4 +1,4 @@
-// The board record and what a card player sees on it (after freecell/board.rs, first half).
+// The board record and what a card player sees on it (after freecell/board.rs, `FreeCellBoard`, changed: NOTICE).
 ghost use mathlib.Core.Path.{_≡_};
 ghost use Rattle.board.specs.Record.{examined};
 ghost use Rattle.board.specs.Refusal.{numberOf, examinedTold};
@@ -15,7 +15,7 @@ pub struct Board {
     pub tableau: [u8; 416],
 }
 
-// Why something is refused; specs/Refusal.antt has document 01's number for each.
+// Why something is refused; specs/Refusal.antt has SCOPE.md's number for each.
 pub enum Refusal {
     WrongLength,
     WrongVersion,
@@ -56,7 +56,7 @@ pub fn examine(b: Board) -> Examined
     judge::inspect(&b.cells, &b.foundation, &b.counts, &b.tableau)
 }
 
-// Document 01's number of a refusal.
+// SCOPE.md's number of a refusal.
 pub fn number(why: Refusal) -> u8
     ensures { λ r. ⌜ r ≡ numberOf why ⌝ }
 {

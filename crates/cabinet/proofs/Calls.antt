@@ -1,4 +1,5 @@
--- An answer that C gets is the answer of a call of the search that keeps its promise: T1 to T4 hold for it.
+-- An answer that C gets is the answer of a call of the search that keeps its promise: T1 to T4
+-- (search/proofs/Judge.antt) hold for it.
 use mathlib.Core.Path.{_≡_, refl, sym, ap, _∙_}
 use mathlib.Core.Bool.{Bool, true, cond, _||_}
 use mathlib.Core.List.{List}

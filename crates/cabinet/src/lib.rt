@@ -1,5 +1,5 @@
 // The judge for a controller program in C: numbers and lent memory alone. A board is 432 bytes (src/wire.rt); 0 is done, any
-// other number document 01's. A refusal changes nothing lent, but for 30 in a replay.
+// other number SCOPE.md's. A refusal changes nothing lent, but for 30 in a replay.
 ghost use mathlib.Core.Path.{_≡_};
 ghost use Rattle.board.specs.Record.{examined};
 ghost use Rattle.solver.specs.Capacity.{capacityOf};

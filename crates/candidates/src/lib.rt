@@ -1,5 +1,5 @@
 // What the search tries on a board, in order, and the children that it makes (after freecell/solver.rs, `find_all_moves` and
-// `expand_moves`).
+// `expand_moves`, changed: NOTICE).
 ghost use Prim.Native.Nat.{_≤_};
 ghost use lib.ListN.{length};
 ghost use Rattle.board.specs.Record.{shown};

@@ -1,4 +1,4 @@
-// The moves that are tried, as records one after the other (after freecell/solver.rs, `find_all_moves`).
+// The moves that are tried, as records one after the other (after freecell/solver.rs, `find_all_moves`, changed: NOTICE).
 ghost use mathlib.Core.Path.{_≡_};
 ghost use mathlib.Core.Bool.{true};
 ghost use mathlib.Core.List.{_∷_, [], _++_};

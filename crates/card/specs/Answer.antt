@@ -1,4 +1,4 @@
--- What an entry point hands back: what was asked for, or a refusal by document 01's number.
+-- What an entry point hands back: what was asked for, or a refusal by SCOPE.md's number.
 use mathlib.Core.Bool.{Bool, cond}
 use Prim.Native.Nat.{ℕ}
 

@@ -1,4 +1,4 @@
-// Cards: the four suits, their colours, and a card's code, value * 16 + suit (after common/card.rs).
+// Cards: the four suits, their colours, and a card's code, value * 16 + suit (after common/card.rs, changed: NOTICE).
 ghost use mathlib.Core.Path.{_≡_};
 ghost use mathlib.Core.Bool.{true};
 ghost use Rattle.card.specs.Suit.{suitNumber, suitAt, colorOf, suitAsked, suitTold};

@@ -1,4 +1,5 @@
-// The key of a waiting node: by cost + heuristic, then by heuristic, then by number, in one word.
+// The key of a waiting node: by cost + heuristic, then by heuristic, then by number, in one word (after freecell/solver.rs,
+// `is_higher`, changed: NOTICE).
 ghost use mathlib.Core.Path.{_≡_};
 ghost use Prim.Native.Nat.{_%_, _<_};
 ghost use Rattle.frontier.specs.Packing.{packed};

@@ -1,4 +1,4 @@
--- The allowed moves of a kind, in document 01's order: by source, then by destination, then by length.
+-- The allowed moves of a kind, in SCOPE.md's order: by source, then by destination, then by length.
 use mathlib.Core.Path.{_≡_}
 use mathlib.Core.Bool.{cond}
 use mathlib.Core.Logic.{_⊎_}

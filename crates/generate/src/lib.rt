@@ -1,4 +1,4 @@
-// The six generators of moves (after freecell/board.rs, `find_..`), in one walk: by source, destination, length.
+// The six generators of moves, in one walk: by source, destination, length (after freecell/board.rs, `find_..`, changed: NOTICE).
 ghost use mathlib.Core.Path.{_≡_};
 ghost use mathlib.Core.Bool.{true};
 ghost use mathlib.Core.List.{_∷_, []};

@@ -1,4 +1,4 @@
-// Dealing a deck of 52.
+// Dealing a deck of 52 (after freecell/board.rs, `apply_fc_deal`, changed: NOTICE).
 ghost use mathlib.Core.Path.{_≡_};
 ghost use Prim.Native.Nat.{_<_};
 ghost use Rattle.card.specs.Words.{listed};

@@ -1,4 +1,4 @@
--- The known hands P1 to P11 of document 01, as one table.
+-- The known hands P1 to P11 of SCOPE.md, as one table.
 use mathlib.Core.Bool.{Bool, true, false, _&&_, xor, not}
 use mathlib.Core.List.{List, [], _∷_}
 use Prim.Native.Nat.{ℕ}

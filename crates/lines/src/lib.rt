@@ -1,4 +1,5 @@
-// The line of a node as records, root first: each node's first move, and then its chain's.
+// The line of a node as records, root first: each node's first move, and then its chain's (after freecell/solver.rs,
+// `reconstruct_moves`, changed: NOTICE).
 ghost use Prim.Native.Nat.{_+_, _*_, _<_, _≤_};
 ghost use lib.ListN.{length, take};
 ghost use Rattle.board.specs.Record.{shown};

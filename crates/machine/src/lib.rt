@@ -1,4 +1,4 @@
-// What the search counts beside the lent memory, and how its steps end.
+// What the search counts beside the lent memory, and how its steps end (after freecell/solver.rs, changed: NOTICE).
 
 // Nodes born, nodes that wait, the best node and its raised progress score, and the pops.
 pub struct Counts {

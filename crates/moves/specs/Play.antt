@@ -58,7 +58,7 @@ afterMove t m = put (without t m) (to m) (there (without t m) (to m) ++ hand t m
 pub data Cause : Type 0 where
   ownColumn sourceEmpty tooMany otherCard overLimit noRun noFit cellFull notNext : Cause
 
--- document 01's number of a cause
+-- SCOPE.md's number of a cause
 unfoldable pub causeNumber : Cause → ℕ
 causeNumber c = 30
 

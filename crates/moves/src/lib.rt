@@ -1,4 +1,4 @@
-// A move and its five-byte record (after freecell/board.rs, `FreeCellMove`).
+// A move and its five-byte record (after freecell/board.rs, `FreeCellMove`, changed: NOTICE).
 ghost use mathlib.Core.Path.{_≡_};
 ghost use mathlib.Core.Bool.{true};
 ghost use mathlib.Core.List.{_∷_, []};

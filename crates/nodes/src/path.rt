@@ -1,4 +1,4 @@
-// From a node up to the root, and down again on a board.
+// From a node up to the root, and down again on a board (after freecell/solver.rs, `reconstruct_moves`, changed: NOTICE).
 ghost use mathlib.Core.Path.{_≡_};
 ghost use Prim.Native.Nat.{_<_, _≤_};
 ghost use lib.ListN.{length, take};

@@ -1,4 +1,4 @@
-// The three words of a node, read and written.
+// The three words of a node, read and written (after freecell/solver.rs, `FcSearchNode`, changed: NOTICE).
 ghost use mathlib.Core.Path.{_≡_};
 ghost use mathlib.Core.Bool.{true};
 ghost use mathlib.Core.List.{_∷_, []};

@@ -1,4 +1,4 @@
--- What `oneboard` prints for an image, in document 01's words.
+-- What `oneboard` prints for an image, in SCOPE.md's words.
 use mathlib.Core.Bool.{false, cond}
 use mathlib.Core.List.{List, [], _∷_, _++_}
 use Prim.Native.Nat.{ℕ}

@@ -1,4 +1,5 @@
-// Whether a move is allowed on a board that is known to be well formed.
+// Whether a move is allowed on a board that is known to be well formed (after freecell/board.rs, `FreeCellMove::apply`,
+// changed: NOTICE).
 ghost use mathlib.Core.Path.{_≡_};
 ghost use mathlib.Core.Bool.{true};
 ghost use mathlib.Core.List.{_∷_, []};

@@ -1,4 +1,4 @@
-// Playing a move on a board record.
+// Playing a move on a board record (after freecell/board.rs, `FreeCellMove::apply`, changed: NOTICE).
 ghost use mathlib.Core.Path.{_≡_};
 ghost use mathlib.Core.Bool.{true};
 ghost use Prim.Native.Nat.{_+_, _-_, _≤_, _<_};

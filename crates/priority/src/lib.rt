@@ -1,4 +1,4 @@
-// The local priority of a move (after freecell/solver.rs, `local_priority`).
+// The local priority of a move (after freecell/solver.rs, `local_priority`, changed: NOTICE).
 ghost use mathlib.Core.Path.{_≡_};
 ghost use Rattle.board.specs.Record.{shown};
 ghost use Rattle.moves.specs.Play.{afterMove};

@@ -1,4 +1,4 @@
--- What each case of an answer means: the value asked for, or document 01's number.
+-- What each case of an answer means: the value asked for, or SCOPE.md's number.
 use mathlib.Core.Bool.{Bool, true, false}
 use Prim.Native.Nat.{ℕ}
 use Rattle.card.specs.Answer.{Answer, given, refused}

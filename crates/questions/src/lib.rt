@@ -1,5 +1,6 @@
-// The plain questions about a board. Each entry point examines its record first; beside it stands the inner form for
-// a record known to be well formed, which borrows the arrays that it reads and copies nothing.
+// The plain questions about a board (after freecell/board.rs and `is_win` of freecell/solver.rs, changed: NOTICE). Each entry
+// point examines its record first; beside it stands the inner form for a record known to be well formed, which borrows the
+// arrays that it reads and copies nothing.
 ghost use mathlib.Core.Path.{_≡_};
 ghost use mathlib.Core.Bool.{cond};
 ghost use Prim.Native.Nat.{_<_};

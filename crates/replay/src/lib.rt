@@ -1,4 +1,4 @@
-// One move from its record, and a list of them (after freecell/board.rs, `FreeCellMove::apply`).
+// One move from its record, and a list of them (after freecell/board.rs, `FreeCellMove::apply`, changed: NOTICE).
 ghost use mathlib.Core.Path.{_≡_};
 ghost use mathlib.Core.Bool.{true};
 ghost use Prim.Native.Nat.{_%_};

@@ -1,4 +1,4 @@
--- Known hands P9 and P10 of document 01, by computation.
+-- Known hands P9 and P10 of SCOPE.md, by computation.
 use mathlib.Core.Path.{_≡_, refl}
 use mathlib.Core.List.{List, [], _∷_}
 use Prim.Native.Nat.{ℕ}

@@ -1,4 +1,4 @@
-// The rules of laying cards: fit, run, the most cards moved at once (after freecell/board.rs).
+// The rules of laying cards: fit, run, the most cards moved at once (after freecell/board.rs, changed: NOTICE).
 ghost use mathlib.Core.Path.{_≡_};
 ghost use mathlib.Core.Bool.{true};
 ghost use Prim.Native.Nat.{_<_};

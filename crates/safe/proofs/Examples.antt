@@ -1,4 +1,4 @@
--- Known hand P11 of document 01, the three of hearts, whatever hearts are home.
+-- Known hand P11 of SCOPE.md, the three of hearts, whatever hearts are home.
 use mathlib.Core.Path.{_≡_, refl, ap}
 use mathlib.Core.Bool.{Bool, true, false, _&&_, xor}
 use mathlib.Core.List.{[], _∷_}

@@ -1,5 +1,5 @@
 // Safe play: which card may go home without a second thought, the first such move, and the chain of them (after
-// freecell/solver.rs, `is_safe_foundation_move` to `auto_play_safe_chain`).
+// freecell/solver.rs, `is_safe_foundation_move` to `auto_play_safe_chain`, changed: NOTICE).
 ghost use mathlib.Core.Path.{_≡_};
 ghost use mathlib.Core.Bool.{true, _&&_};
 ghost use Prim.Native.Nat.{_/_, _<_, _≤_};

@@ -1,4 +1,4 @@
--- Known hand P2 of document 01, by computation: board S, all home but the spade king, which lies alone in column 0.
+-- Known hand P2 of SCOPE.md, by computation: board S, all home but the spade king, which lies alone in column 0.
 use mathlib.Core.Path.{_≡_, refl, ap}
 use mathlib.Core.List.{[], _∷_}
 use lib.IntN.{pos}

@@ -1,4 +1,4 @@
--- The weights, by the Rust's names and in its order (freecell/weights.rs); of those that the Rust has below 0, the size.
+-- The weights, by the Rust's names and in its order (after freecell/weights.rs, changed: NOTICE); of those that the Rust has below 0, the size.
 use Prim.Native.Nat.{ℕ}
 
 -- ---- one step ahead

@@ -1,4 +1,4 @@
-// Features of a board, the two scores made of them, and the progress token (after freecell/solver.rs, first part).
+// Features of a board, the two scores made of them, and the progress token (after freecell/solver.rs, changed: NOTICE).
 ghost use mathlib.Core.Path.{_≡_};
 ghost use Rattle.score.specs.Asked.{featuresAsked, featuresTold, heuristicAsked, progressAsked, scoreTold, Writes};
 use board::Board;

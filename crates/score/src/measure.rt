@@ -1,4 +1,4 @@
-// The features of a well formed board, from its arrays (after freecell/solver.rs, `compute_features`).
+// The features of a well formed board, from its arrays (after freecell/solver.rs, `compute_features`, changed: NOTICE).
 ghost use mathlib.Core.Path.{_≡_};
 ghost use mathlib.Core.Bool.{cond};
 ghost use mathlib.Core.List.{_∷_, []};

@@ -1,4 +1,4 @@
-// The two scores of a board's features.
+// The two scores of a board's features (after freecell/solver.rs, `heuristic_cost` and `progress_score`, changed: NOTICE).
 ghost use mathlib.Core.Path.{_≡_};
 ghost use Prim.Native.Nat.{_≤_};
 ghost use lib.IntN.{subℕ};

@@ -1,4 +1,4 @@
-// The progress token, written into lent room.
+// The progress token, written into lent room (after freecell/solver.rs, `progress_token`, changed: NOTICE).
 ghost use mathlib.Core.Path.{_≡_};
 ghost use mathlib.Core.List.{_++_};
 ghost use Prim.Native.Nat.{_+_, _<_, _≤_};

@@ -1,4 +1,5 @@
-// The weights, by the Rust's names and in its order (freecell/weights.rs); of those that the Rust has below 0, the size.
+// The weights, by the Rust's names and in its order (after freecell/weights.rs, changed: NOTICE); of those that the Rust has
+// below 0, the size.
 
 // One step ahead.
 pub const LOOKAHEAD_FOUNDATION_OPTIONS_WEIGHT: usize = 90;

@@ -1,4 +1,4 @@
--- The theorems for FreeCell. A board that is accepted (`examined b ≡ fine`) is `Sound` by `sound` of board/proofs/Soundness.antt.
+-- The theorems T1 to T4 for FreeCell. A board that is accepted (`examined b ≡ fine`) is `Sound` by `sound` of board/proofs/Soundness.antt.
 use mathlib.Core.Path.{_≡_, refl, sym, ap, _∙_, subst}
 use mathlib.Core.Bool.{Bool, true, false}
 use mathlib.Core.List.{List}
@@ -34,7 +34,7 @@ use Rattle.search.proofs.Pops.{pops-within, limit-spends}
 use Rattle.search.proofs.Room.{no-room-only-then, no-room-always-then}
 use Rattle.search.proofs.OneRun as one
 
--- ---- T1
+-- ---- T1: lists that can be played
 
 module _ (b : Board) (s : Sound b) (budget capacity : ℕ) (partial : Bool) (l : List Move) where
   led : judge (shown b) budget capacity partial .list ≡ some l
@@ -64,7 +64,7 @@ pub T1-list : (t : Table) (budget capacity : ℕ) (partial : Bool) → isSome (j
 unfolding judge
 T1-list t budget capacity partial = list-when freecell t budget capacity partial
 
--- ---- T2
+-- ---- T2: two masters agree
 
 module _ (t : Table) (a c x y : ℕ) (p q : Bool) where
   -- two controllers that both call a hand won hand over the same list, whatever their budgets, capacities and flags
@@ -77,7 +77,7 @@ module _ (t : Table) (a c x y : ℕ) (p q : Bool) where
   unfolding judge
   T2-apart e f = masters.not-won-and-exhausted freecell t a c x y p q e f
 
--- ---- T3
+-- ---- T3: more keeps what was found
 
 -- with budget and capacity no smaller and the same flag, won and exhausted stay: the same answer, list and count
 pub T3-stays : (t : Table) (a c x y : ℕ) (p : Bool) → a ≤ x → c ≤ y
@@ -115,7 +115,7 @@ module _ (b : Board) (s : Sound b) {a c x y : ℕ} (h : a ≤ x) (k : c ≤ y) (
       let g = featuresOf (afterMoves (shown b) m) in
       sym (progress-order d g (last-bounded l r) (last-bounded m q)) ∙ le-leb (progressKey d) (progressKey g) (keys-rise i e j f r q)
 
--- ---- T4
+-- ---- T4: pops, the limit, and 23
 
 -- no more pops than the budget
 pub T4-pops : (t : Table) (budget capacity : ℕ) (partial : Bool) → judge t budget capacity partial .pops ≤ budget

@@ -1,4 +1,4 @@
--- T1's claim about a list that FreeCell's search answers with.
+-- What theorem T1 (proofs/Judge.antt) claims of a list that FreeCell's search answers with.
 use mathlib.Core.Path.{_≡_}
 use mathlib.Core.Bool.{true}
 use mathlib.Core.List.{List}

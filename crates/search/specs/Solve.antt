@@ -1,4 +1,4 @@
--- The search, as document 01 tells it.
+-- The search, as SCOPE.md tells it.
 use mathlib.Core.Bool.{Bool, true, false, cond, not, _&&_, _||_}
 use mathlib.Core.List.{List, [], _∷_, _++_}
 use Prim.Native.Nat.{ℕ, zero, suc, _+_}
@@ -10,7 +10,7 @@ use Rattle.search.specs.Game.{Game}
 abbrev pub MAX_DEPTH : ℕ
 MAX_DEPTH = 200
 
--- document 01's numbers: the limit without a list, exhausted without and with one (`bestAtLimit`, below, is the fourth)
+-- SCOPE.md's numbers: the limit without a list, exhausted without and with one (`bestAtLimit`, below, is the fourth)
 abbrev pub atLimit : ℕ
 atLimit = 3
 
@@ -190,7 +190,7 @@ module _ (G : Game) where
 
   -- ---- the answer
 
-  -- document 01's number, the list if there is one, the pops
+  -- SCOPE.md's number, the list if there is one, the pops
   pub record Answer : Type 0 where
     pub number : ℕ
     pub list : Perhaps (List (G .Move))

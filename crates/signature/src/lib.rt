@@ -1,4 +1,4 @@
-// FNV-1a and the signature of a board (after freecell/board.rs, `compute_signature`).
+// FNV-1a and the signature of a board (after freecell/board.rs, `compute_signature`, changed: NOTICE).
 ghost use mathlib.Core.Path.{_≡_};
 ghost use Prim.Native.Nat.{_*_, _%_, _^_, _≤_, _<_};
 ghost use lib.ListN.{length};

@@ -1,4 +1,4 @@
--- T1 and T4 over the code: what holds of any call that keeps the promise of `solve`, whatever the scratch held.
+-- T1 and T4 (search/proofs/Judge.antt) over the code: what holds of any call that keeps the promise of `solve`, whatever the scratch held.
 use mathlib.Core.Path.{_≡_, refl, sym, ap, ap₂, _∙_, subst}
 use mathlib.Core.Bool.{Bool, true, false}
 use mathlib.Core.List.{List, [], _∷_, _++_}
@@ -225,7 +225,7 @@ module _ {b : Board} (c : Call b) where
   pub refusal-keeps : (IsAnswer (number c) → ⊥) → Untouched c
   refusal-keeps = refused-by (verdict c) refl
 
-  -- ---- T1
+  -- ---- T1: lists that can be played
 
   module _ (z : Sized b) (a : Accepted c) where
     hands-over : (l : List Move) → sought .list ≡ some l → HandsOver c
@@ -290,7 +290,7 @@ module _ {b : Board} (c : Call b) where
   pub T1-none : 3 ≤ number c → NoList c
   T1-none = no-list-by (verdict c) refl
 
-  -- ---- T4
+  -- ---- T4: pops, the limit, and 23
 
   pops-by : (v : Verdict) → verdict c ≡ v → c .result .pops ≤ c .budget
   pops-by (given u) e = let p = gives e .pops in let q = proved.T4-pops (shown b) (c .budget) (capacity c) (c .partial) in omega arith

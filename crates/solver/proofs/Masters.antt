@@ -1,4 +1,4 @@
--- T2 and T3 over the code: what holds of any two calls on one board that keep the promise of `solve`, whatever the scratch held.
+-- T2 and T3 (search/proofs/Judge.antt) over the code: what holds of any two calls on one board that keep the promise of `solve`, whatever the scratch held.
 use mathlib.Core.Path.{_≡_, refl, sym, ap, _∙_, subst}
 use mathlib.Core.Bool.{Bool, true}
 use mathlib.Core.List.{List}
@@ -74,7 +74,7 @@ module _ {b : Board} (x y : Call b) where
     pub earlier-bytes : SameAnswer x y
     earlier-bytes = same-by (verdict x) refl
 
-  -- ---- T2
+  -- ---- T2: two masters agree
 
   -- two calls that both call a hand won hand over the same list, byte for byte, whatever was lent and asked
   pub T2-list : number x ≡ 0 → number y ≡ 0 → SameList x y
@@ -92,7 +92,7 @@ module _ {b : Board} (x y : Call b) where
       proved.T2-apart (shown b) (x .budget) (capacity x) (y .budget) (capacity y) (x .partial) (y .partial) (sym (gives x a .number) ∙ e)
       (subst (λ (n : ℕ). (n ≡ 2) ⊎ (n ≡ 4)) (gives y d .number) f)
 
-  -- ---- T3
+  -- ---- T3: more keeps what was found
 
   module _ (less : NoLarger x y) where
     -- the larger call is accepted too, if its budget may be asked for and its list buffer is long enough

@@ -19,7 +19,7 @@ use Rattle.solver.specs.declared.Said.{Said}
 use Rattle.solver.specs.declared.Said.the-variants.{Won, BestAtLimit, BestExhausted, Limit, Exhausted, NoRoom, Refused}
 use Rattle.solver.specs.declared.Judged.{Judged}
 
--- document 01's number of each case
+-- SCOPE.md's number of each case
 abbrev pub saidNumber : Said → ℕ
 saidNumber Won = 0
 saidNumber BestAtLimit = 1

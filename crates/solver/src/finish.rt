@@ -1,4 +1,4 @@
-// The answer and its list (after freecell/solver.rs, `reconstruct_moves`).
+// The answer and its list (after freecell/solver.rs, `reconstruct_moves`, changed: NOTICE).
 ghost use mathlib.Core.Path.{_≡_};
 ghost use mathlib.Core.Bool.{true, not, _&&_};
 ghost use lib.Dec.{eqb};

@@ -1,4 +1,4 @@
-// A node's children, one after the other (after freecell/solver.rs, the loop over `expansions`).
+// A node's children, one after the other (after freecell/solver.rs, the loop over `expansions`, changed: NOTICE).
 ghost use mathlib.Core.Path.{_≡_};
 ghost use Prim.Native.Nat.{_<_, _≤_};
 ghost use Rattle.board.specs.Record.{shown};

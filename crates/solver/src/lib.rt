@@ -1,4 +1,4 @@
-// The search in lent memory (after freecell/solver.rs, `solve_with_stats`).
+// The search in lent memory (after freecell/solver.rs, `solve_with_stats`, changed: NOTICE).
 ghost use mathlib.Core.Path.{_≡_};
 ghost use Prim.Native.Nat.{min, _≤_};
 ghost use lib.ListN.{length};
@@ -20,7 +20,7 @@ mod finish;
 mod grow;
 mod run;
 
-// How a search was answered; specs/Searched.antt has document 01's number for each.
+// How a search was answered; specs/Searched.antt has SCOPE.md's number for each.
 pub enum Said {
     Won,
     BestAtLimit,
@@ -44,7 +44,7 @@ pub enum Choice {
     Slot(usize),
 }
 
-// Document 01's number of an answer.
+// SCOPE.md's number of an answer.
 pub fn number(said: Said) -> u8
     ensures { λ r. ⌜ r ≡ saidNumber said ⌝ }
 {

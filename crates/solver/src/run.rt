@@ -1,4 +1,4 @@
-// The run: the root, then a node taken at each turn (after freecell/solver.rs, the loop over the frontier).
+// The run: the root, then a node taken at each turn (after freecell/solver.rs, the loop over the frontier, changed: NOTICE).
 ghost use mathlib.Core.Path.{_≡_};
 ghost use Prim.Native.Nat.{_<_, _≤_};
 ghost use Rattle.board.specs.Record.{shown};

@@ -1,4 +1,4 @@
-// Tries the refusals of document 01 that a board can meet, and the plain questions. Standard input is a script of the
+// Tries the refusals of SCOPE.md that a board can meet, and the plain questions. Standard input is a script of the
 // trials, whose first lines say how to read it; a trial writes its label and what came of it.
 mod kinds;
 mod records;

@@ -1,4 +1,4 @@
-// What a trial writes: its label, then document 01's number, or `board` and what the plain questions say of it.
+// What a trial writes: its label, then SCOPE.md's number, or `board` and what the plain questions say of it.
 use board::Board;
 use board::Examined;
 use board::Refusal;
