@@ -1,4 +1,4 @@
--- A fair table: well-formed, as document 01 says it. Every theorem that asks for a well-formed board asks for this.
+-- A fair table: well-formed, as SCOPE.md says it. Every theorem that asks for a well-formed board asks for this.
 use mathlib.Core.Path.{_≡_}
 use mathlib.Core.Bool.{Bool, true, _&&_}
 use Prim.Native.Nat.{ℕ, _<_, _≤_}

@@ -1,4 +1,4 @@
--- What the words of the demands say of document 01's numbers, evaluated.
+-- What the words of the demands say of SCOPE.md's numbers, evaluated.
 use mathlib.Core.Path.{_≡_, refl}
 use mathlib.Core.Bool.{Bool, true, false}
 use Rattle.search.specs.Game.{Game}

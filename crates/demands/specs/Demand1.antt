@@ -16,7 +16,7 @@ use Rattle.cabinet.specs.Judged.{isAnswer}
 use Rattle.demands.specs.Calls.{Entry, examine, read, deal, move, replay, chain, moves, candidates, token, priority, scores, signature, features, capacity, judge}
 use Rattle.demands.specs.Calls.{boundary, Call, GoodBoard, capacityIn}
 
--- ---- document 01's numbers
+-- ---- SCOPE.md's numbers
 
 abbrev pub isIn : ℕ → List ℕ → Bool
 isIn n [] = false
@@ -136,7 +136,7 @@ pub record Demand1 : Type 0 where
   -- "Every entry point ..": these fifteen
   pub fifteen : length boundary ≡ 15
   pub all : (e : Entry) → getD boundary (placeOf e) judge ≡ e
-  -- ".. examines what it gets": a function that hands something back was given what document 01 asks for
+  -- ".. examines what it gets": a function that hands something back was given what SCOPE.md asks for
   pub examines : {e : Entry} (c : Call e) → hands e (c .number) ≡ true → Examined e c
   -- "a refusal returns its number from document 01": a number with which nothing is handed back is one of the function's refusals
   pub numbered : {e : Entry} (c : Call e) → (hands e (c .number) || isIn (c .number) (refusals e)) ≡ true
