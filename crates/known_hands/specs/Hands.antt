@@ -2,9 +2,10 @@
 use mathlib.Core.Bool.{Bool, true, false, _&&_, xor, not}
 use mathlib.Core.List.{List, [], _∷_}
 use Prim.Native.Nat.{ℕ}
-use lib.Dec.{eqb}
+use lib.Dec.{eqb, ltb}
 use lib.IntN.{ℤ, pos}
 use lib.Signed.{leZ}
+use Rattle.card.specs.Card.{isCard}
 use Rattle.board.specs.Table.{Table}
 use Rattle.rules.specs.Limit.{mostMoved}
 use Rattle.generate.specs.Asked.{bytesOf}
@@ -60,8 +61,8 @@ forEach p (x ∷ l) = p x && forEach p l
 abbrev pub answered : Table → Question → Bool
 answered t (scores h p) = sameScore (heuristic (featuresOf t)) h && sameScore (progress (featuresOf t)) p
 answered t (judging budget capacity flags number pops list) = forEach (λ partial. sameAnswer (judge t budget capacity partial) number pops list) flags
-answered t (limit to n) = eqb (mostMoved (t .cells) (t .columns) to) n
-answered t (safely x expected) = not (xor (safe (t .foundation) x) expected)
+answered t (limit to n) = ltb to 8 && eqb (mostMoved (t .cells) (t .columns) to) n
+answered t (safely x expected) = isCard x && not (xor (safe (t .foundation) x) expected)
 
 -- a hand holds: its board is one, and its question is answered as expected
 unfoldable pub holds : Hand → Bool
@@ -81,28 +82,50 @@ noPartial = false ∷ []
 abbrev pub anyFlag : List Bool
 anyFlag = false ∷ true ∷ []
 
+-- ---- the table, row by row
+
+abbrev pub P1 : Hand
+P1 = record { board = won; question = judging 0 1 anyFlag 0 0 (some []) }
+
+abbrev pub P2 : Hand
+P2 = record { board = S; question = scores (pos 29) (pos 128275) }
+
+abbrev pub P3 : Hand
+P3 = record { board = S; question = judging 0 2 anyFlag 3 0 none }
+
+abbrev pub P4 : Hand
+P4 = record { board = S; question = judging 1 2 noPartial 3 1 none }
+
+-- the spade king goes home from column 0
+abbrev pub P5 : Hand
+P5 = record { board = S; question = judging 2 2 anyFlag 0 2 (some (2 ∷ 0 ∷ 3 ∷ 1 ∷ 211 ∷ [])) }
+
+abbrev pub P6 : Hand
+P6 = record { board = S; question = judging 2 1 anyFlag 23 1 none }
+
+abbrev pub P7 : Hand
+P7 = record { board = T; question = judging 0 1 anyFlag 3 0 none }
+
+abbrev pub P8 : Hand
+P8 = record { board = T; question = judging 1 1 anyFlag 4 1 none }
+
+abbrev pub P9 : Hand
+P9 = record { board = fresh; question = limit 0 5 }
+
+abbrev pub P10-into : Hand
+P10-into = record { board = crowded; question = limit 0 1 }
+
+abbrev pub P10-elsewhere : Hand
+P10-elsewhere = record { board = crowded; question = limit 1 2 }
+
+abbrev pub P11-safe : Hand
+P11-safe = record { board = laid (2 ∷ 1 ∷ 2 ∷ 2 ∷ []); question = safely three true }
+
+abbrev pub P11-spades : Hand
+P11-spades = record { board = laid (2 ∷ 1 ∷ 2 ∷ 1 ∷ []); question = safely three false }
+
+abbrev pub P11-diamonds : Hand
+P11-diamonds = record { board = laid (2 ∷ 0 ∷ 2 ∷ 2 ∷ []); question = safely three false }
+
 unfoldable pub hands : List Hand
-hands =
-    -- P1
-    record { board = won; question = judging 0 1 anyFlag 0 0 (some []) }
-    -- P2
-    ∷ record { board = S; question = scores (pos 29) (pos 128275) }
-    -- P3, P4
-    ∷ record { board = S; question = judging 0 2 anyFlag 3 0 none }
-    ∷ record { board = S; question = judging 1 2 noPartial 3 1 none }
-    -- P5: the spade king goes home from column 0; P6
-    ∷ record { board = S; question = judging 2 2 anyFlag 0 2 (some (2 ∷ 0 ∷ 3 ∷ 1 ∷ 211 ∷ [])) }
-    ∷ record { board = S; question = judging 2 1 anyFlag 23 1 none }
-    -- P7, P8
-    ∷ record { board = T; question = judging 0 1 anyFlag 3 0 none }
-    ∷ record { board = T; question = judging 1 1 anyFlag 4 1 none }
-    -- P9
-    ∷ record { board = fresh; question = limit 0 5 }
-    -- P10
-    ∷ record { board = crowded; question = limit 0 1 }
-    ∷ record { board = crowded; question = limit 1 2 }
-    -- P11
-    ∷ record { board = laid (2 ∷ 1 ∷ 2 ∷ 2 ∷ []); question = safely three true }
-    ∷ record { board = laid (2 ∷ 1 ∷ 2 ∷ 1 ∷ []); question = safely three false }
-    ∷ record { board = laid (2 ∷ 0 ∷ 2 ∷ 2 ∷ []); question = safely three false }
-    ∷ []
+hands = P1 ∷ P2 ∷ P3 ∷ P4 ∷ P5 ∷ P6 ∷ P7 ∷ P8 ∷ P9 ∷ P10-into ∷ P10-elsewhere ∷ P11-safe ∷ P11-spades ∷ P11-diamonds ∷ []

@@ -1,5 +1,5 @@
 -- The theorems T1 to T4 for FreeCell. A board that is accepted (`examined b ≡ fine`) is `Sound` by `sound` of board/proofs/Soundness.antt.
-use mathlib.Core.Path.{_≡_, refl, sym, ap, _∙_, subst}
+use mathlib.Core.Path.{_≡_, refl, sym, ap, _∙_}
 use mathlib.Core.Bool.{Bool, true, false}
 use mathlib.Core.List.{List}
 use mathlib.Core.Logic.{_⊎_}
@@ -9,25 +9,23 @@ use borrow.Author.Tests.{le-leb}
 use lib.Dec.{leb}
 use lib.Signed.{leZ}
 use Rattle.board.specs.Table.{Table}
-use Rattle.board.specs.Record.{shown, boardOf}
+use Rattle.board.specs.Record.{shown}
 use Rattle.board.specs.Inner.{Sound}
 use Rattle.board.specs.declared.Board.{Board}
-use Rattle.board.proofs.Records.{shown-of-record}
-use Rattle.board.specs.Fair.{Fair}
-use Rattle.board.proofs.Fair.{shows-fair, fair-laid, fair-sound}
+use Rattle.board.proofs.Fair.{shows-fair}
 use Rattle.questions.specs.Questions.{wonOn}
 use Rattle.moves.specs.declared.Move.{Move}
 use Rattle.replay.specs.Played.{afterMoves, Legal}
 use Rattle.replay.proofs.Legal.{legal-fair, legal-cards, line-legal}
 use Rattle.score.specs.Features.{Bounded, featuresOf}
 use Rattle.score.specs.Scores.{progressKey}
-use Rattle.score.proofs.Bounds.{bounded}
 use Rattle.score.proofs.Keys.{progress-order}
 use Rattle.search.specs.Solve.{some, none, State, limit, start, run}
 use Rattle.search.specs.Freecell.{freecell, judge}
 use Rattle.search.specs.Claims.{isSome, OutOfRoom, Follows}
 use Rattle.search.specs.Played.{PlayedOut, finalScore}
 use Rattle.search.proofs.Ruled.{Reaches, freecell-laws}
+use Rattle.search.proofs.Signed.{fair-bounded}
 use Rattle.search.proofs.Lines.{Answered, lines-lead, list-when}
 use Rattle.search.proofs.Masters as masters
 use Rattle.search.proofs.Pops.{pops-within, limit-spends}
@@ -84,9 +82,6 @@ pub T3-stays : (t : Table) (a c x y : ℕ) (p : Bool) → a ≤ x → c ≤ y
     → (judge t a c p .number ≡ 0) ⊎ ((judge t a c p .number ≡ 2) ⊎ (judge t a c p .number ≡ 4)) → judge t x y p ≡ judge t a c p
 unfolding judge
 T3-stays t a c x y p h k f = masters.larger-settings freecell t a c x y p h k f
-
-fair-bounded : (t : Table) → Fair t → Bounded (featuresOf t)
-fair-bounded t f = subst (λ (u : Table). Bounded (featuresOf u)) (shown-of-record t (fair-laid t f)) (bounded (boardOf t) (fair-sound t f))
 
 -- and where both bring a best-progress list, the final score is no lower with the larger settings
 module _ (b : Board) (s : Sound b) {a c x y : ℕ} (h : a ≤ x) (k : c ≤ y) (p : Bool) (l m : List Move) where

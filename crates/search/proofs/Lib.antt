@@ -1,4 +1,6 @@
 -- Laws. Read these in this order.
+pub mod Opened
+pub mod Definition
 pub mod Examples
 pub mod Beginning
 pub mod Kept
@@ -9,4 +11,5 @@ pub mod Pops
 pub mod Room
 pub mod OneRun
 pub mod Ruled
+pub mod Signed
 pub mod Judge

@@ -13,7 +13,8 @@ use Rattle.candidates.specs.Children.{childMoves, childTable}
 use Rattle.search.specs.Game.{Game}
 use Rattle.search.specs.Solve.{Answer, solve}
 
--- two boards count as the same if their signatures are equal
+-- Two boards count as the same if their signatures are equal. The scores are raised to natural numbers: on well-formed boards nodes
+-- are ordered by them as by SCOPE.md's signed scores (Signed.antt; `before-signed`, `better-signed` of proofs/Signed.antt).
 abbrev pub freecell : Game
 freecell =
     record {

@@ -2,5 +2,6 @@
 pub mod Game
 pub mod Solve
 pub mod Freecell
+pub mod Signed
 pub mod Claims
 pub mod Played

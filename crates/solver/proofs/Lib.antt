@@ -1,4 +1,5 @@
 -- Laws of the inner functions.
+pub mod Accepted
 pub mod Choices
 pub mod Hoping
 pub mod Births
