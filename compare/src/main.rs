@@ -3,12 +3,14 @@
 //
 //     compare [WORK..] [NAME=NUMBER..]
 //
-// WORK: boards, judge, long, room, deep, damage (all of these if none is named), or sample, which writes the
-// gate's sample of the original's answers. NAME: seed, threads, a work for the number
+// WORK: boards, judge, long, room, deep, damage (all of these if none is named), or sample and calls, which write the
+// gate's samples of the original's answers. NAME: seed, threads, a work for the number
 // of its tasks, first for the task to begin with (`judge first=7 judge=8` is task 7 alone), or steps for the exchanges of cards
 // that a climb of deep tries.
+mod answers;
 mod asks;
 mod boards;
+mod calls;
 mod codes;
 mod damage;
 mod deep;
@@ -32,7 +34,7 @@ use tasks::{done, Run};
 
 // Every work with the number of its tasks; a task of judge and of long is a board with both flags at each budget. The tasks of
 // deep are the 16 boards of deep-boards.txt, and then climbs.
-const WORKS: [(&str, usize); 7] = [
+const WORKS: [(&str, usize); 8] = [
     ("boards", 100_000),
     ("judge", 2_000),
     ("long", 20),
@@ -40,6 +42,7 @@ const WORKS: [(&str, usize); 7] = [
     ("deep", 20),
     ("damage", 100_000),
     ("sample", 40),
+    ("calls", 1),
 ];
 
 // What the command line asks for: works by name, and numbers by name.

@@ -3,7 +3,7 @@ use crate::asks::Difference;
 use crate::draws::Draws;
 use crate::original::freecell::board::FreeCellBoard;
 use crate::work::{self, Report, Tally};
-use crate::{boards, codes, damage, deep, judging, plain, refusals, sample, shrink};
+use crate::{boards, calls, codes, damage, deep, judging, plain, refusals, sample, shrink};
 
 pub struct Run {
     pub seed: u64,
@@ -194,6 +194,7 @@ pub fn done(run: &Run, name: &str, tasks: usize) -> Result<(), Report> {
         "damage" => work::run(name, all, threads, |task, tally| {
             on_damage(run, task, tally)
         }),
+        "calls" => calls::write(run).map_err(|why| why.to_string()),
         _ => sample::write(run, tasks).map_err(|why| why.to_string()),
     }
 }

@@ -40,20 +40,6 @@ fn line_end() {
     io::write_all(1, b"\n");
 }
 
-// A signed number.
-fn signed(n: i64) {
-    if n < 0 {
-        io::write_all(1, b"-");
-        let below = -1 - n;
-        let size = below as u64;
-        let low = size % 4294967296;
-        io::print_decimal(1, low + 1);
-        return;
-    }
-    let size = n as u64;
-    io::print_decimal(1, size);
-}
-
 fn features(b: Board) {
     match score::features_of(b) {
         FeaturesAnswer::Are(f) => {
@@ -71,7 +57,7 @@ fn features(b: Board) {
 
 fn score(answer: ScoreAnswer) {
     match answer {
-        ScoreAnswer::Score(n) => signed(n),
+        ScoreAnswer::Score(n) => signed::print_signed(n),
         ScoreAnswer::Refused(why) => refusal(why),
     }
 }

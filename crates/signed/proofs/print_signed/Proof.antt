@@ -1,8 +1,8 @@
--- What `signed` leaves to be shown: the size of a number by its sign.
-use Rattle.oracle_scores.proofs.Minus.{flip-fits, flip-size, plain-size}
+-- What `print_signed` leaves to be shown: the size of a number by its sign.
+use Rattle.signed.proofs.Minus.{flip-fits, flip-size, plain-size}
 use borrow.Author.Needs.{needs}
-use Rattle.oracle_scores.proofs.signed.Statement.{statement}
-use Rattle.oracle_scores.proofs.signed.Tie as tie
+use Rattle.signed.proofs.print_signed.Statement.{statement}
+use Rattle.signed.proofs.print_signed.Tie as tie
 
 slice-aggregate-write-all : tie.Need-slice-aggregate-write-all
 slice-aggregate-write-all c = search needs
@@ -34,8 +34,8 @@ print-decimal-requires-2 c κs = search needs
 returns-2 : tie.Need-returns-2
 returns-2 c = search needs
 
-pub signed-spec : {M : Type 1} → statement M
-signed-spec =
+pub print-signed-spec : {M : Type 1} → statement M
+print-signed-spec =
     tie.close
     (tie.spec
     slice-aggregate-write-all
