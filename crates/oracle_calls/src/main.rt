@@ -37,8 +37,11 @@ fn number(n: usize) {
 }
 
 // A number that may be below 0, with a space after it.
-fn signed_number(n: i64) {
-    signed::print_signed(n);
+fn signed(n: i64) {
+    if n < 0 {
+        io::write_all(1, b"-");
+    }
+    io::print_decimal(1, magnitude::size_of(n));
     space();
 }
 
@@ -105,7 +108,7 @@ fn priority(board: &[u8], record: &[u8]) {
     let mut priority = -7;
     let answer = cabinet::corbelnib_priority(board, record, &mut priority);
     number(wide(answer));
-    signed_number(priority);
+    signed(priority);
 }
 
 fn chain(board: &[u8], room: &mut [u8]) {
@@ -119,8 +122,8 @@ fn scores(board: &[u8]) {
     let mut progress = -8;
     let answer = cabinet::corbelnib_scores(board, &mut heuristic, &mut progress);
     number(wide(answer));
-    signed_number(heuristic);
-    signed_number(progress);
+    signed(heuristic);
+    signed(progress);
 }
 
 fn signature(board: &[u8]) {

@@ -40,6 +40,14 @@ fn line_end() {
     io::write_all(1, b"\n");
 }
 
+// A signed number.
+fn signed(n: i64) {
+    if n < 0 {
+        io::write_all(1, b"-");
+    }
+    io::print_decimal(1, magnitude::size_of(n));
+}
+
 fn features(b: Board) {
     match score::features_of(b) {
         FeaturesAnswer::Are(f) => {
@@ -57,7 +65,7 @@ fn features(b: Board) {
 
 fn score(answer: ScoreAnswer) {
     match answer {
-        ScoreAnswer::Score(n) => signed::print_signed(n),
+        ScoreAnswer::Score(n) => signed(n),
         ScoreAnswer::Refused(why) => refusal(why),
     }
 }
