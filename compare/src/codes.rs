@@ -107,6 +107,13 @@ pub fn hex(bytes: &[u8]) -> String {
     bytes.iter().map(|byte| format!("{byte:02x}")).collect()
 }
 
+pub fn unhex(text: &str) -> Vec<u8> {
+    let pairs = text.as_bytes().chunks(2);
+    pairs
+        .map(|pair| u8::from_str_radix(std::str::from_utf8(pair).unwrap(), 16).expect("two digits"))
+        .collect()
+}
+
 fn name(card: Card) -> String {
     let value = b"?A23456789TJQK"[card.value as usize] as char;
     let suit = b"CDHS"[card.suit as usize] as char;

@@ -1,6 +1,7 @@
 // Damaged inputs: boards, images, decks, records, lists, numbers and room, one or more of them wrong, to every function. What
 // must come is told by refusals.rs; what is not refused after all is compared as any other input.
-use crate::asks::{self, Settings, Told};
+use crate::answers::Settings;
+use crate::asks::{self, Told};
 use crate::boards::{self, played, shuffled};
 use crate::codes::{self, counted, image, records, BOARD, COLUMN, EMPTY};
 use crate::draws::Draws;

@@ -1,5 +1,6 @@
 // Judge: answer, pops and list, at given budgets and flags, with room enough, just enough, and one node too few.
-use crate::asks::{judged, Difference, Settings};
+use crate::answers::Settings;
+use crate::asks::{judged, Difference};
 use crate::codes::bytes;
 use crate::draws::Draws;
 use crate::lent::lengths_for;

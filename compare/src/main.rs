@@ -3,13 +3,17 @@
 //
 //     compare [WORK..] [NAME=NUMBER..]
 //
-// WORK: boards, judge, long, room, damage (all of these if none is named), or sample, which writes the
-// gate's sample of the original's answers. NAME: seed, threads, a work for the number
-// of its tasks, or first for the task to begin with: `judge first=7 judge=8` is task 7 alone.
+// WORK: boards, judge, long, room, deep, damage (all of these if none is named), or sample and calls, which write the
+// gate's samples of the original's answers. NAME: seed, threads, a work for the number
+// of its tasks, first for the task to begin with (`judge first=7 judge=8` is task 7 alone), or steps for the exchanges of cards
+// that a climb of deep tries.
+mod answers;
 mod asks;
 mod boards;
+mod calls;
 mod codes;
 mod damage;
+mod deep;
 mod draws;
 mod gauge;
 mod judging;
@@ -28,20 +32,28 @@ use original::common;
 use std::collections::BTreeMap;
 use tasks::{done, Run};
 
-// Every work with the number of its tasks; a task of judge and of long is a board with both flags at each budget.
-const WORKS: [(&str, usize); 6] = [
+// Every work with the number of its tasks; a task of judge and of long is a board with both flags at each budget. The tasks of
+// deep are the 16 boards of deep-boards.txt, and then climbs.
+const WORKS: [(&str, usize); 8] = [
     ("boards", 100_000),
     ("judge", 2_000),
     ("long", 20),
     ("room", 500),
+    ("deep", 20),
     ("damage", 100_000),
     ("sample", 40),
+    ("calls", 1),
 ];
 
 // What the command line asks for: works by name, and numbers by name.
 fn asked() -> (Vec<String>, BTreeMap<String, usize>) {
     let cores = std::thread::available_parallelism().map_or(1, |n| n.get());
-    let others = [("seed", 2026), ("first", 0), ("threads", cores)];
+    let others = [
+        ("seed", 2026),
+        ("first", 0),
+        ("threads", cores),
+        ("steps", 40),
+    ];
     let all = WORKS.into_iter().chain(others);
     let mut numbers: BTreeMap<String, usize> = all.map(|(name, n)| (name.to_string(), n)).collect();
     let mut works = Vec::new();
@@ -56,7 +68,7 @@ fn asked() -> (Vec<String>, BTreeMap<String, usize>) {
         }
     }
     if works.is_empty() {
-        works.extend(WORKS[..5].iter().map(|(name, _)| name.to_string()));
+        works.extend(WORKS[..6].iter().map(|(name, _)| name.to_string()));
     }
     (works, numbers)
 }
@@ -67,6 +79,7 @@ fn main() {
         seed: numbers["seed"] as u64,
         threads: numbers["threads"],
         first: numbers["first"],
+        steps: numbers["steps"],
     };
     println!("seed {}, {} threads", run.seed, run.threads);
     for name in &works {

@@ -9,10 +9,10 @@ pub mod common {
 pub mod freecell {
     include!(concat!(env!("OUT_DIR"), "/freecell.rs"));
 
-    // The original's weights, but for two that are seen through gauge.rs; a name brought in by itself goes before the others.
+    // The original's weights, but for three that are seen through gauge.rs; a name brought in by itself goes before the others.
     pub mod weights {
         pub use super::given::*;
-        pub use crate::gauge::{MAX_NODES, PROGRESS_LOW_BLOCKED_PENALTY};
+        pub use crate::gauge::{MAX_DEPTH, MAX_NODES, PROGRESS_LOW_BLOCKED_PENALTY};
     }
 
     pub mod solver {
@@ -58,13 +58,23 @@ pub mod freecell {
             }
         }
 
-        // What a search came to: SCOPE.md's number, the pops, the list, and how many nodes were made.
+        // What a search came to: SCOPE.md's number, the pops, the list; how many nodes were made, how deep the deepest
+        // lies, and after how many pops it was made.
         #[derive(Clone, Debug)]
         pub struct Judged {
             pub number: u8,
             pub pops: usize,
             pub births: usize,
+            pub deepest: usize,
+            pub deepest_at: usize,
             pub list: Vec<FreeCellMove>,
+        }
+
+        impl Judged {
+            // Whether a caller can tell them apart.
+            pub fn differs(&self, other: &Judged) -> bool {
+                (self.number, self.pops, &self.list) != (other.number, other.pops, &other.list)
+            }
         }
 
         pub fn judge(
@@ -73,7 +83,18 @@ pub mod freecell {
             capacity: usize,
             partial: bool,
         ) -> Judged {
-            gauge::start(budget, capacity);
+            judge_to(gauge::DEPTH, board, budget, capacity, partial)
+        }
+
+        // The same with another limit of depth than the original's.
+        pub fn judge_to(
+            depth: usize,
+            board: &FreeCellBoard,
+            budget: usize,
+            capacity: usize,
+            partial: bool,
+        ) -> Judged {
+            gauge::start(budget, capacity, depth);
             let moves = FreeCellSolver::new().solve(board, 0.0, partial);
             let gauge = gauge::reading();
             let number = if gauge.no_room {
@@ -96,6 +117,8 @@ pub mod freecell {
                 number,
                 pops: gauge.pops,
                 births: gauge.births,
+                deepest: gauge.deepest,
+                deepest_at: gauge.deepest_at,
                 list: list.unwrap_or_default(),
             }
         }

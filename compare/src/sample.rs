@@ -3,22 +3,16 @@
 use crate::original::freecell::board::FreeCellBoard;
 use crate::original::freecell::solver::{self, Judged};
 use crate::tasks::Run;
-use crate::{boards, codes};
+use crate::{boards, codes, deep, gauge};
 use std::path::Path;
 
 const BUDGETS: [usize; 6] = [0, 1, 2, 10, 100, 1_000];
-// the most nodes that the program has memory for
+// the most nodes of a random board
 const NODES: usize = 2_000;
+// the most nodes that the program has memory for
+const MORE_NODES: usize = 24_000;
 // what the program reads at most
 const INPUT: usize = 60_000;
-
-fn case(board: &FreeCellBoard, budget: usize, nodes: usize, partial: bool) -> Vec<u8> {
-    let mut case = (budget as u32).to_be_bytes()[1..].to_vec();
-    case.extend((nodes as u16).to_be_bytes());
-    case.push(partial as u8);
-    case.extend(codes::image(board));
-    codes::counted(&case)
-}
 
 fn line(judged: &Judged) -> String {
     let list: String = judged
@@ -30,32 +24,103 @@ fn line(judged: &Judged) -> String {
     format!("{} {} {moves} {list}\n", judged.number, judged.pops)
 }
 
-// Each board at each budget with both flags; the memory is all that there is, just enough, or one node too little.
-pub fn write(run: &Run, tasks: usize) -> std::io::Result<()> {
-    let (mut input, mut output) = (Vec::new(), String::new());
-    let mut numbers = [0; 24];
-    for task in run.first..run.first.max(tasks) {
-        let mut draws = run.draws(5, task);
-        let board = boards::board(&mut draws, task);
-        for budget in BUDGETS {
-            for partial in [false, true] {
-                let need = solver::judge(&board, budget, NODES, partial).births.max(1);
-                let nodes =
-                    draws.one_of(&[NODES, NODES, need.min(NODES), (need - 1).clamp(1, NODES)]);
-                let judged = solver::judge(&board, budget, nodes, partial);
-                numbers[judged.number as usize] += 1;
-                input.extend(case(&board, budget, nodes, partial));
-                output += &line(&judged);
-            }
+// A board, and how it is judged.
+struct Case {
+    board: FreeCellBoard,
+    budget: usize,
+    nodes: usize,
+    partial: bool,
+}
+
+impl Case {
+    fn bytes(&self) -> Vec<u8> {
+        let mut case = (self.budget as u32).to_be_bytes()[1..].to_vec();
+        case.extend((self.nodes as u16).to_be_bytes());
+        case.push(self.partial as u8);
+        case.extend(codes::image(&self.board));
+        codes::counted(&case)
+    }
+
+    // What the original says with some limit of depth.
+    fn judged(&self, depth: usize) -> Judged {
+        solver::judge_to(depth, &self.board, self.budget, self.nodes, self.partial)
+    }
+
+    fn differs(&self, depth: usize) -> bool {
+        self.judged(depth).differs(&self.judged(gauge::DEPTH))
+    }
+}
+
+// A random board at each budget with both flags; the memory is all that there is, just enough, or one node too little.
+fn random(run: &Run, task: usize) -> Vec<Case> {
+    let mut draws = run.draws(5, task);
+    let board = boards::board(&mut draws, task);
+    let mut cases = Vec::new();
+    for budget in BUDGETS {
+        for partial in [false, true] {
+            let need = solver::judge(&board, budget, NODES, partial).births.max(1);
+            let nodes = draws.one_of(&[NODES, NODES, need.min(NODES), (need - 1).clamp(1, NODES)]);
+            cases.push(Case {
+                board: board.clone(),
+                budget,
+                nodes,
+                partial,
+            });
         }
     }
+    cases
+}
+
+// A board that goes deep, where it tells the limit of depth from others; once, if that tells all that it can.
+fn deep(board: FreeCellBoard) -> Vec<Case> {
+    let mut cases: Vec<Case> = Vec::new();
+    for other in deep::OTHERS {
+        if cases.iter().any(|case| case.differs(other)) {
+            continue;
+        }
+        cases.extend(deep::tells(&board, other).map(|(budget, nodes)| Case {
+            board: board.clone(),
+            budget,
+            nodes,
+            partial: true,
+        }));
+    }
+    cases
+}
+
+// The lines of the sample that another limit of depth would change.
+fn otherwise(cases: &[Case], depth: usize) {
+    let lines: Vec<usize> = (0..cases.len())
+        .filter(|&n| cases[n].differs(depth))
+        .map(|n| n + 1)
+        .collect();
+    println!("  depth {depth} differs in lines {lines:?}");
+}
+
+pub fn write(run: &Run, tasks: usize) -> std::io::Result<()> {
+    let mut cases: Vec<Case> = (run.first..run.first.max(tasks))
+        .flat_map(|task| random(run, task))
+        .collect();
+    cases.extend(deep::known().into_iter().flat_map(deep));
+    let (mut input, mut output) = (Vec::new(), String::new());
+    let mut numbers = [0; 24];
+    for case in &cases {
+        let judged = case.judged(gauge::DEPTH);
+        numbers[judged.number as usize] += 1;
+        input.extend(case.bytes());
+        output += &line(&judged);
+    }
     assert!(input.len() < INPUT);
+    assert!(cases.iter().all(|case| case.nodes <= MORE_NODES));
     println!(
         "sample: {} bytes of input; answers 0 to 4 and 23: {:?} {}",
         input.len(),
         &numbers[..5],
         numbers[23]
     );
+    for depth in deep::OTHERS {
+        otherwise(&cases, depth);
+    }
     let folder = Path::new(env!("CARGO_MANIFEST_DIR")).join("../crates/oracle_judge");
     std::fs::write(folder.join("stdin"), input)?;
     std::fs::write(folder.join("stdout"), output)

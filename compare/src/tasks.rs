@@ -3,12 +3,14 @@ use crate::asks::Difference;
 use crate::draws::Draws;
 use crate::original::freecell::board::FreeCellBoard;
 use crate::work::{self, Report, Tally};
-use crate::{boards, codes, damage, judging, plain, refusals, sample, shrink};
+use crate::{boards, calls, codes, damage, deep, judging, plain, refusals, sample, shrink};
 
 pub struct Run {
     pub seed: u64,
     pub threads: usize,
     pub first: usize,
+    // how many exchanges a climb tries
+    pub steps: usize,
 }
 
 impl Run {
@@ -124,6 +126,37 @@ fn on_room(run: &Run, task: usize, tally: &mut Tally) -> Result<(), Report> {
     }
 }
 
+// Judge on a board that goes deep, at the budgets that tell the limit of depth and far beyond them, at the need and below it.
+// What a climb found is said if it tells.
+fn on_deep(run: &Run, task: usize, tally: &mut Tally) -> Result<(), Report> {
+    let mut draws = run.draws(6, task);
+    let board = deep::board(&mut draws, task, run.steps);
+    let seed = draws.word();
+    let mut budgets = vec![deep::BUDGET];
+    for other in deep::OTHERS {
+        let Some((budget, _)) = deep::tells(&board, other) else {
+            continue;
+        };
+        budgets.push(budget);
+        tally.count("boards", format!("that tell the limit from {other}:"), 1);
+        if task >= deep::known().len() {
+            let image = codes::hex(&codes::image(&board));
+            tally.count(format!("found {image}"), format!("tells from {other}:"), 1);
+        }
+    }
+    for budget in budgets {
+        for partial in [false, true] {
+            let differs = |board: &FreeCellBoard, budget| {
+                judging::at_the_need(&mut Draws::new(seed, 0, 0), board, (budget, partial)).err()
+            };
+            if let Some(found) = differs(&board, budget) {
+                return Err(judging_report(board, found, (budget, partial), differs));
+            }
+        }
+    }
+    Ok(())
+}
+
 // Damaged inputs to a function, until one is refused.
 fn on_damage(run: &Run, task: usize, tally: &mut Tally) -> Result<(), Report> {
     let mut draws = run.draws(4, task);
@@ -157,9 +190,11 @@ pub fn done(run: &Run, name: &str, tasks: usize) -> Result<(), Report> {
             on_judge(run, 2, task, &[refusals::MOST_POPS], tally)
         }),
         "room" => work::run(name, all, threads, |task, tally| on_room(run, task, tally)),
+        "deep" => work::run(name, all, threads, |task, tally| on_deep(run, task, tally)),
         "damage" => work::run(name, all, threads, |task, tally| {
             on_damage(run, task, tally)
         }),
+        "calls" => calls::write(run).map_err(|why| why.to_string()),
         _ => sample::write(run, tasks).map_err(|why| why.to_string()),
     }
 }

@@ -125,6 +125,33 @@ fn with_room(board: &[u8], budget: usize, capacity: usize, partial: u8) {
     );
 }
 
+// Memory for at most 24,000 nodes, as boards need that go deep.
+fn with_more_room(board: &[u8], budget: usize, capacity: usize, partial: u8) {
+    let mut nodes = [7u32; 72000];
+    let mut heap = [7u64; 24000];
+    let mut keys = [7u64; 48000];
+    let mut costs = [MARK; 48000];
+    in_part(
+        board,
+        budget,
+        capacity,
+        partial,
+        &mut nodes,
+        &mut heap,
+        &mut keys,
+        &mut costs,
+    );
+}
+
+// The memory by what is asked for: to clear much of it takes time.
+fn judge(board: &[u8], budget: usize, capacity: usize, partial: u8) {
+    if capacity <= 2000 {
+        with_room(board, budget, capacity, partial);
+    } else {
+        with_more_room(board, budget, capacity, partial);
+    }
+}
+
 // One case: its settings and its image.
 fn case(s: &[u8]) {
     if s.len() < 6 {
@@ -135,7 +162,7 @@ fn case(s: &[u8]) {
     let mut board = [0u8; 432];
     let refused = cabinet::corbelnib_read(&s[6..], &mut board);
     if refused == 0 {
-        with_room(&board, budget, capacity, s[5]);
+        judge(&board, budget, capacity, s[5]);
     } else {
         number(wide(refused));
     }

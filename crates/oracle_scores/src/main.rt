@@ -44,14 +44,8 @@ fn line_end() {
 fn signed(n: i64) {
     if n < 0 {
         io::write_all(1, b"-");
-        let below = -1 - n;
-        let size = below as u64;
-        let low = size % 4294967296;
-        io::print_decimal(1, low + 1);
-        return;
     }
-    let size = n as u64;
-    io::print_decimal(1, size);
+    io::print_decimal(1, magnitude::size_of(n));
 }
 
 fn features(b: Board) {

@@ -1,7 +1,7 @@
--- A signed word that is written by its sign and its size.
+-- The size of a signed word, by its sign.
 use mathlib.Core.Path.{_≡_, refl, sym, ap, _∙_, subst}
 use mathlib.Core.Bool.{Bool, true, false, cond}
-use Prim.Native.Nat.{ℕ, suc, _-_, _^_, _<_}
+use Prim.Native.Nat.{ℕ, suc, _+_, _-_, _^_, _<_}
 use native.Mathlib.Omega.{arith}
 use native.Mathlib.Nat.{lt-of-lt-of-le}
 use borrow.Author.Tests.{ltb-true, le-ltb}
@@ -37,10 +37,26 @@ module _ (n : ℤ) (f : SFits w64 n) (e : ltZ (toZ w64 (ofZ w64 n)) (pos 0) ≡ 
   pub flip-fits : SFits w64 (negsuc 0 -ℤ toZ w64 (ofZ w64 n))
   flip-fits = subst (SFits w64) (sym flipped) (record { sfits = neg .small })
 
+  turned : toZ w64 (ofZ w64 (negsuc 0 -ℤ toZ w64 (ofZ w64 n))) ≡ pos (neg .size)
+  turned = toZ-ofZ {w = w64} flip-fits ∙ flipped
+
   pub flip-size : T (nonNeg (toZ w64 (ofZ w64 (negsuc 0 -ℤ toZ w64 (ofZ w64 n))))) × Fits w64 (natAbs (toZ w64 (ofZ w64 (negsuc 0 -ℤ toZ w64 (ofZ w64 n)))))
   flip-size =
-      subst (λ (z : ℤ). T (nonNeg z) × Fits w64 (natAbs z)) (sym (toZ-ofZ {w = w64} flip-fits ∙ flipped))
+      subst (λ (z : ℤ). T (nonNeg z) × Fits w64 (natAbs z)) (sym turned)
       (tt, record { fits = lt-of-lt-of-le (neg .small) (lit≤ tt) })
+
+  -- with the one back that was taken to make it fit
+  one-more : neg .size + 1 < 2 ^ hbits w64 + 1
+  one-more = let h = neg .small in let w : neg .size + 1 < 2 ^ hbits w64 + 1 = omega arith in w
+
+  pub whole-fits : Fits w64 (natAbs (toZ w64 (ofZ w64 (negsuc 0 -ℤ toZ w64 (ofZ w64 n)))) + 1)
+  whole-fits = subst (λ (z : ℤ). Fits w64 (natAbs z + 1)) (sym turned) (record { fits = lt-of-lt-of-le one-more (lit≤ tt) })
+
+  pub whole-size : natAbs (toZ w64 (ofZ w64 (negsuc 0 -ℤ toZ w64 (ofZ w64 n)))) + 1 ≡ natAbs n
+  whole-size =
+      ap (λ (z : ℤ). natAbs z + 1) turned
+      ∙ (let q : neg .size + 1 ≡ suc (neg .size) = omega arith in q)
+      ∙ sym (ap natAbs (neg .is))
 
 -- and one that is not below 0
 above : (n : ℤ) → SFits w64 n → ltZ n (pos 0) ≡ false → T (nonNeg n) × Fits w64 (natAbs n)
@@ -51,3 +67,6 @@ pub plain-size : (n : ℤ) → SFits w64 n → ltZ (toZ w64 (ofZ w64 n)) (pos 0)
 plain-size n f e =
     let same = toZ-ofZ {w = w64} f in
     subst (λ (z : ℤ). T (nonNeg z) × Fits w64 (natAbs z)) (sym same) (above n f (subst (λ (z : ℤ). ltZ z (pos 0) ≡ false) same e))
+
+pub plain-is : (n : ℤ) → SFits w64 n → natAbs (toZ w64 (ofZ w64 n)) ≡ natAbs n
+plain-is n f = ap natAbs (toZ-ofZ {w = w64} f)

@@ -1,0 +1,112 @@
+// What has to come back from each call, with any input at all, by SCOPE.md and the original: what is handed back, or the
+// number of a refusal.
+use crate::codes::{bytes, records, BOARD};
+use crate::original::freecell::board::{FreeCellBoard, FreeCellMove};
+use crate::original::freecell::solver::{self, Judged};
+use crate::refusals::{self, Asked, FEATURES, RECORDS, TOKEN};
+
+// Bytes, and the number that is told with them.
+pub type Counted = Asked<(Vec<u8>, usize)>;
+
+pub fn read(image: &[u8], length: usize) -> Asked<Vec<u8>> {
+    refusals::image(image).and_then(|board| refusals::room(bytes(&board), length, BOARD))
+}
+
+pub fn deal(deck: &[u8], length: usize) -> Asked<Vec<u8>> {
+    refusals::deal(deck).and_then(|board| refusals::room(bytes(&board), length, BOARD))
+}
+
+pub fn play(board: &[u8], record: &[u8], length: usize) -> Asked<Vec<u8>> {
+    refusals::board(board)
+        .and_then(|board| refusals::step(&board, record))
+        .and_then(|(_, after)| refusals::room(bytes(&after), length, BOARD))
+}
+
+// The number, and what is handed back: 30 hands back a place and a board, as 0 does.
+pub fn replay(board: &[u8], list: &[u8], length: usize) -> (u8, Counted) {
+    let asked = refusals::board(board)
+        .and_then(|board| refusals::list(list).map(|()| board))
+        .and_then(|board| refusals::room(board, length, BOARD))
+        .map(|board| refusals::replay(&board, list));
+    match asked {
+        Ok((told, count, after)) => (told, Ok((bytes(&after), count))),
+        Err(told) => (told, Err(told)),
+    }
+}
+
+type Listing = fn(&FreeCellBoard) -> Vec<FreeCellMove>;
+
+// The records of some moves of a board and how many they are, in room of some length.
+fn listing(board: Asked<FreeCellBoard>, moves: Listing, length: usize) -> Counted {
+    let board = refusals::room(board?, length, RECORDS)?;
+    let steps = moves(&board);
+    Ok((records(&steps), steps.len()))
+}
+
+pub fn moves(board: &[u8], kind: u8, length: usize) -> Counted {
+    let finds: [Listing; 6] = [
+        FreeCellMove::find_tableau_to_tableau,
+        FreeCellMove::find_tableau_to_foundation,
+        FreeCellMove::find_tableau_to_freecell,
+        FreeCellMove::find_freecell_to_tableau,
+        FreeCellMove::find_freecell_to_foundation,
+        FreeCellMove::find_foundation_to_tableau,
+    ];
+    refusals::board(board).and_then(|board| {
+        let find = finds.get((kind as usize).wrapping_sub(1)).ok_or(30)?;
+        listing(Ok(board), *find, length)
+    })
+}
+
+pub fn candidates(board: &[u8], length: usize) -> Counted {
+    listing(refusals::board(board), solver::candidates, length)
+}
+
+pub fn priority(board: &[u8], record: &[u8]) -> Asked<i64> {
+    let board = refusals::board(board)?;
+    let (step, _) = refusals::step(&board, record)?;
+    solver::priority(&board, &step).ok_or(30)
+}
+
+pub fn chain(board: &[u8], length: usize) -> Counted {
+    let board = refusals::board(board)?;
+    let (moves, after) = solver::chain(&board);
+    refusals::room((bytes(&after), moves), length, BOARD)
+}
+
+pub fn features(board: &[u8], length: usize) -> Asked<Vec<u64>> {
+    let board = refusals::board(board)?;
+    refusals::room(solver::features(&board).to_vec(), length, FEATURES)
+}
+
+// The heuristic and the progress score.
+pub fn scores(board: &[u8]) -> Asked<(i64, i64)> {
+    refusals::board(board).map(|board| solver::scores(&board))
+}
+
+pub fn signature(board: &[u8]) -> Asked<u64> {
+    refusals::board(board).map(|board| board.signature)
+}
+
+pub fn token(board: &[u8], length: usize) -> Counted {
+    let board = refusals::board(board)?;
+    let text = solver::progress_token(&board).into_bytes();
+    let count = text.len();
+    refusals::room((text, count), length, TOKEN)
+}
+
+// A search: how far, with which flag, with how much scratch and room for the list.
+#[derive(Clone, Copy, Debug)]
+pub struct Settings {
+    pub budget: usize,
+    pub partial: u8,
+    pub lengths: [usize; 4],
+    pub list: usize,
+}
+
+pub fn judge(board: &[u8], settings: Settings) -> Asked<Judged> {
+    let board = refusals::board(board)?;
+    let capacity = refusals::search(settings.budget, settings.list, settings.lengths)?;
+    let partial = settings.partial != 0;
+    Ok(solver::judge(&board, settings.budget, capacity, partial))
+}

@@ -1,0 +1,520 @@
+// Calls of every function for C, with answers and refusals, that the gate holds ours to without the original: input and
+// expected output of the program crates/oracle_calls, whose src/main.rt says how they are laid out.
+use crate::answers::{self, Settings};
+use crate::boards::{self, moves_by_kind, played};
+use crate::codes::{self, BOARD, EMPTY};
+use crate::draws::Draws;
+use crate::original::common::card::{Card, Suit};
+use crate::original::freecell::board::FreeCellBoard;
+use crate::original::freecell::solver;
+use crate::refusals::{self, Asked, FEATURES, LIST, MOST_POPS, RECORDS, TOKEN};
+use crate::tasks::Run;
+use std::collections::BTreeMap;
+use std::path::Path;
+
+const NAMES: [&str; 15] = [
+    "examine",
+    "read",
+    "deal",
+    "move",
+    "replay",
+    "chain",
+    "moves",
+    "candidates",
+    "token",
+    "priority",
+    "scores",
+    "signature",
+    "features",
+    "capacity",
+    "judge",
+];
+// what lent memory holds before a call, and how much of each the program has
+const MARK: u8 = 165;
+const ROOM: usize = 4_200;
+const FEATURES_ROOM: usize = 9;
+const SCRATCH: [usize; 4] = [8, 3, 6, 6];
+// what the program reads at most
+const INPUT: usize = 60_000;
+
+// A function, how much room it is lent, so many bytes of a board with one byte put, and what else it is given.
+#[derive(Clone)]
+struct Call {
+    function: &'static str,
+    room: usize,
+    board: FreeCellBoard,
+    given: usize,
+    put: Option<(usize, u8)>,
+    kind: u8,
+    bytes: Vec<u8>,
+}
+
+// The least room that a function takes.
+fn least(function: &str) -> usize {
+    match function {
+        "read" | "deal" | "move" | "replay" | "chain" => BOARD,
+        "moves" | "candidates" => RECORDS,
+        "token" => TOKEN,
+        "features" => FEATURES,
+        "judge" => LIST,
+        _ => 0,
+    }
+}
+
+fn call(function: &'static str, board: &FreeCellBoard) -> Call {
+    Call {
+        function,
+        room: least(function),
+        board: board.clone(),
+        given: BOARD,
+        put: None,
+        kind: 0,
+        bytes: Vec::new(),
+    }
+}
+
+// Each byte and its place counts.
+fn sum(room: &[u8]) -> u64 {
+    room.iter()
+        .fold(1, |sum, &byte| sum % 4_294_967_291 * 257 + u64::from(byte))
+}
+
+// Numbers, with a space after each.
+fn numbers<T: ToString>(all: impl IntoIterator<Item = T>) -> String {
+    all.into_iter().map(|n| n.to_string() + " ").collect()
+}
+
+// What stands in lent room at last: what is given at its start, and else what stood there.
+fn over<T: Copy>(given: &[T], mark: T, length: usize) -> Vec<T> {
+    let mut room = given.to_vec();
+    room.resize(length, mark);
+    room
+}
+
+// The number that comes, and a number told, or what stood in its place.
+fn told<T: ToString>(asked: &Asked<T>, stood: T) -> String {
+    let number = asked.as_ref().err().copied().unwrap_or(0);
+    numbers([number]) + &numbers([asked.as_ref().unwrap_or(&stood)].map(T::to_string))
+}
+
+impl Call {
+    fn board(&self) -> Vec<u8> {
+        let mut board = over(&codes::bytes(&self.board), 0, 440);
+        if let Some((place, byte)) = self.put {
+            board[place] = byte;
+        }
+        board.truncate(self.given);
+        board
+    }
+
+    fn input(&self) -> Vec<u8> {
+        let function = 1 + NAMES
+            .iter()
+            .position(|&name| name == self.function)
+            .unwrap();
+        let (place, byte) = self.put.unwrap_or((usize::from(u16::MAX), 0));
+        let pair = |n: usize| u16::try_from(n).unwrap().to_be_bytes();
+        let image = codes::image(&self.board);
+        let mut input = pair(self.bytes.len() + image.len()).to_vec();
+        input.push(function as u8);
+        for number in [self.room, self.given, place] {
+            input.extend(pair(number));
+        }
+        input.extend([byte, self.kind]);
+        input.extend(pair(self.bytes.len()));
+        input.extend(&self.bytes);
+        input.extend(image);
+        input
+    }
+
+    // The numbers that the program writes, and the bytes that stand at the start of the room.
+    fn answer(&self) -> (String, Vec<u8>) {
+        let (board, bytes, room) = (&self.board()[..], &self.bytes[..], self.room);
+        let handed = |asked: Asked<Vec<u8>>| {
+            let number = asked.as_ref().err().copied().unwrap_or(0);
+            (numbers([number]), asked.unwrap_or_default())
+        };
+        let counted = |asked: answers::Counted| {
+            let numbers = told(&asked.as_ref().map(|given| given.1).map_err(|&n| n), 7);
+            (numbers, asked.map(|given| given.0).unwrap_or_default())
+        };
+        match self.function {
+            "examine" => handed(refusals::board(board).map(|_| Vec::new())),
+            "read" => handed(answers::read(bytes, room)),
+            "deal" => handed(answers::deal(bytes, room)),
+            "move" => handed(answers::play(board, bytes, room)),
+            "replay" => {
+                let (number, given) = answers::replay(board, bytes, room);
+                let (text, after) = counted(given);
+                let count = text.split_once(' ').unwrap().1;
+                (numbers([number]) + count, after)
+            }
+            "chain" => counted(answers::chain(board, room)),
+            "moves" => counted(answers::moves(board, self.kind, room)),
+            "candidates" => counted(answers::candidates(board, room)),
+            "token" => counted(answers::token(board, room)),
+            "priority" => (told(&answers::priority(board, bytes), -7), Vec::new()),
+            "scores" => {
+                let asked = answers::scores(board);
+                let heuristic = told(&asked.map(|scores| scores.0), -7);
+                let progress = asked.map_or(-8, |scores| scores.1);
+                (heuristic + &numbers([progress]), Vec::new())
+            }
+            "signature" => (told(&answers::signature(board), 7), Vec::new()),
+            "features" => {
+                let asked = answers::features(board, room);
+                let number = asked.as_ref().err().copied().unwrap_or(0);
+                let held = over(&asked.unwrap_or_default(), 7, FEATURES_ROOM);
+                (numbers([number]) + &numbers(held), Vec::new())
+            }
+            "capacity" => {
+                let scale = if self.kind == 0 { 1 } else { 65_536 };
+                let lengths = [0, 3, 6, 9].map(|at| scale * triple(&bytes[at..at + 3]));
+                (numbers([refusals::capacity(lengths)]), Vec::new())
+            }
+            _ => self.judged(board),
+        }
+    }
+
+    // Answers, and 23, clear the scratch that is lent; refusals leave it.
+    fn judged(&self, board: &[u8]) -> (String, Vec<u8>) {
+        let lengths = [3, 4, 5, 6].map(|at| usize::from(self.bytes[at]));
+        let asked = answers::judge(
+            board,
+            Settings {
+                budget: triple(&self.bytes),
+                partial: self.kind,
+                lengths,
+                list: self.room,
+            },
+        );
+        let (text, list, cleared) = match asked {
+            Ok(judged) => {
+                let told = [judged.number as usize, judged.pops, judged.list.len()];
+                (numbers(told), codes::records(&judged.list), lengths)
+            }
+            Err(number) => (numbers([number, 7, 8]), Vec::new(), [0; 4]),
+        };
+        let part = |i: usize| over(&vec![0; cleared[i]], 7, SCRATCH[i]);
+        let words = [part(0), part(1), part(2)].concat();
+        let costs = sum(&over(&vec![0; cleared[3]], MARK, SCRATCH[3]));
+        (text + &numbers(words) + &numbers([costs]), list)
+    }
+
+    fn line(&self) -> String {
+        let function = 1 + NAMES
+            .iter()
+            .position(|&name| name == self.function)
+            .unwrap();
+        let (numbers_told, written) = self.answer();
+        let sum = sum(&over(&written, MARK, ROOM));
+        format!("{function} {numbers_told}{sum} \n")
+    }
+
+    fn room(mut self, room: usize) -> Call {
+        self.room = room;
+        self
+    }
+
+    fn kind(mut self, kind: u8) -> Call {
+        self.kind = kind;
+        self
+    }
+
+    fn bytes(mut self, bytes: &[u8]) -> Call {
+        self.bytes = bytes.to_vec();
+        self
+    }
+}
+
+fn triple(bytes: &[u8]) -> usize {
+    bytes[..3].iter().fold(0, |n, &b| n * 256 + usize::from(b))
+}
+
+// With room that is just enough, more, and one too little.
+fn in_rooms(call: Call) -> Vec<Call> {
+    let least = least(call.function);
+    [least, least + 2, least - 1]
+        .map(|room| call.clone().room(room))
+        .to_vec()
+}
+
+fn piles(home: [usize; 4]) -> [Vec<Card>; 4] {
+    Suit::ALL.map(|suit| codes::pile(suit, home[suit as usize]))
+}
+
+// SCOPE.md's boards S and T; a won one; a deal; the middle of a game and an endgame on which there are moves of every kind.
+fn on_boards(draws: &mut Draws) -> Vec<FreeCellBoard> {
+    let mut columns: [Vec<Card>; 8] = Default::default();
+    let won = FreeCellBoard::new([None; 4], piles([13; 4]), columns.clone());
+    columns[0].push(Card::new(Suit::Spade, 13));
+    let s = FreeCellBoard::new([None; 4], piles([13, 13, 13, 12]), columns);
+    let clubs = codes::pile(Suit::Club, 13);
+    let mut others = Card::standard_deck();
+    others.retain(|card| card.suit != Suit::Club || card.value == 1);
+    let under = |i: usize| others[5 * i..5 * i + 5].to_vec();
+    let columns = [0, 1, 2, 3, 4, 5, 6, 7].map(|i| [under(i), vec![clubs[1 + i]]].concat());
+    let cells = [9, 10, 11, 12].map(|i| Some(clubs[i]));
+    let t = FreeCellBoard::new(cells, piles([0; 4]), columns);
+    let mut boards = vec![s, t, won, boards::board(draws, 0)];
+    boards.extend([1, 3].map(|kind| lively(draws, kind)));
+    boards
+}
+
+// A board of a kind, with two cards in cells or more and moves of every kind.
+fn lively(draws: &mut Draws, kind: usize) -> FreeCellBoard {
+    loop {
+        let board = boards::board(draws, kind);
+        let held = board.free_cells.iter().flatten().count();
+        if held >= 2 && moves_by_kind(&board).iter().all(|moves| !moves.is_empty()) {
+            return board;
+        }
+    }
+}
+
+// What takes a board and nothing else.
+fn plain(board: &FreeCellBoard) -> Vec<Call> {
+    let read = call("read", board).bytes(&codes::image(board));
+    let mut calls = in_rooms(read);
+    for function in ["examine", "scores", "signature"] {
+        calls.push(call(function, board));
+    }
+    for function in ["chain", "candidates", "token", "features"] {
+        calls.extend(in_rooms(call(function, board)));
+    }
+    for kind in 0..=7 {
+        calls.push(call("moves", board).kind(kind));
+    }
+    calls.extend(in_rooms(call("moves", board).kind(3)));
+    calls.push(call("moves", board).kind(7).room(0));
+    calls
+}
+
+// A move of each kind; one that is not allowed; records of four and six bytes.
+fn moved(board: &FreeCellBoard) -> Vec<Call> {
+    let moves = moves_by_kind(board);
+    let firsts = moves.iter().filter_map(|moves| moves.first());
+    let mut records: Vec<Vec<u8>> = firsts.map(|step| codes::record(step).to_vec()).collect();
+    records.extend([vec![1, 0, 0, 1, 16], vec![7, 0, 0, 1, 16]]);
+    let first = records[0].clone();
+    records.extend([first[..4].to_vec(), [&first[..], &[0]].concat()]);
+    let mut calls = Vec::new();
+    for record in &records {
+        calls.push(call("move", board).bytes(record));
+        calls.push(call("priority", board).bytes(record));
+    }
+    calls.extend(in_rooms(call("move", board).bytes(&first)));
+    calls
+}
+
+// A list by random play, the same with a bad move in it, and lists that are none.
+fn replayed(draws: &mut Draws, board: &FreeCellBoard) -> Vec<Call> {
+    let (_, steps) = played(draws, board.clone(), 12, [3, 3, 2, 3, 3, 1]);
+    let list = codes::records(&steps);
+    let mut calls = in_rooms(call("replay", board).bytes(&list));
+    let mut bad = list.clone();
+    bad[27] = 0;
+    let lists = [&bad[..], &list[..58], &[]];
+    calls.extend(lists.map(|list| call("replay", board).bytes(list)));
+    calls.push(call("replay", board).bytes(&bad).room(BOARD - 1));
+    calls
+}
+
+// Lists of 200 moves and of 201, which is one too many whatever they are.
+fn long_lists(draws: &mut Draws, board: &FreeCellBoard) -> Vec<Call> {
+    let (_, steps) = played(draws, board.clone(), 201, [1, 0, 2, 3, 0, 0]);
+    let list = codes::records(&steps);
+    assert_eq!(list.len(), LIST + 5);
+    [LIST, LIST + 5]
+        .map(|length| call("replay", board).bytes(&list[..length]))
+        .to_vec()
+}
+
+// Every function that takes a board, with boards that are none: 12 in five ways, 13, 14, 15.
+fn damaged(board: &FreeCellBoard) -> Vec<Call> {
+    let cell = board.free_cells.iter().position(Option::is_some).unwrap();
+    let another = codes::code(board.tableau.iter().flatten().next().copied().unwrap());
+    let column = board.tableau.iter().position(|column| column.len() > 1);
+    let card = 16 + codes::COLUMN * column.unwrap();
+    let puts = [
+        (4, 14),
+        (8, 53),
+        (16 + 51, 16),
+        (card, 0x14),
+        (card + 1, another),
+        (cell, EMPTY),
+    ];
+    let record = codes::record(moves_by_kind(board).iter().flatten().next().unwrap());
+    let mut calls = Vec::new();
+    for function in NAMES {
+        let given: &[u8] = match function {
+            "read" | "deal" | "capacity" => continue,
+            "move" | "priority" | "replay" => &record,
+            "judge" => &[0, 0, 2, 6, 2, 4, 4],
+            _ => &[],
+        };
+        let whole = call(function, board).bytes(given).kind(1);
+        for given in [BOARD - 1, BOARD + 1] {
+            calls.push(Call {
+                given,
+                ..whole.clone()
+            });
+        }
+        calls.extend(puts.map(|put| Call {
+            put: Some(put),
+            ..whole.clone()
+        }));
+    }
+    calls
+}
+
+// Images that are none: 10 to 15.
+fn images(board: &FreeCellBoard) -> Vec<Call> {
+    let image = codes::image(board);
+    let changed = |place: usize, byte: u8| {
+        let mut image = image.clone();
+        image[place] = byte;
+        image
+    };
+    let body = |bytes: &[u8]| codes::counted(bytes);
+    let cell = 3 + board.free_cells.iter().position(Option::is_some).unwrap();
+    let images = [
+        vec![],
+        vec![0],
+        changed(1, 0),
+        vec![0, 0],
+        changed(2, 2),
+        body(&image[2..10]),
+        body(&image[2..image.len() - 1]),
+        body(&[&image[2..], &[0]].concat()),
+        changed(7, 14),
+        changed(cell, 0),
+        changed(cell, image[12]),
+        changed(cell, EMPTY),
+    ];
+    images
+        .iter()
+        .map(|image| call("read", board).bytes(image))
+        .collect()
+}
+
+// Decks, and what is none: 16, 13, 14.
+fn decks(draws: &mut Draws, board: &FreeCellBoard) -> Vec<Call> {
+    let deck: Vec<u8> = boards::shuffled(draws)
+        .into_iter()
+        .map(codes::code)
+        .collect();
+    let mut calls = in_rooms(call("deal", board).bytes(&deck));
+    let (mut no_card, mut twice) = (deck.clone(), deck.clone());
+    (no_card[9], twice[9]) = (0xe0, deck[10]);
+    let more = [&deck[..], &deck[..1]].concat();
+    for deck in [&deck[..51], &more, &no_card, &twice] {
+        calls.push(call("deal", board).bytes(deck));
+    }
+    calls
+}
+
+fn capacities(board: &FreeCellBoard) -> Vec<Call> {
+    let lengths = [
+        [0, 0, 0, 0],
+        [3, 1, 2, 2],
+        [2, 1, 2, 2],
+        [3, 0, 2, 2],
+        [3, 1, 1, 2],
+        [3, 1, 2, 1],
+        [3 * 70_000, 80_000, 2 * 90_000, 2 * 60_000 + 1],
+        [0xff_ffff; 4],
+    ];
+    let all = lengths.iter().flat_map(|lengths| {
+        let bytes: Vec<u8> = lengths.iter().flat_map(|&n| number(n)).collect();
+        [0, 1].map(|flag| call("capacity", board).bytes(&bytes).kind(flag))
+    });
+    all.collect()
+}
+
+// A number in three bytes.
+fn number(n: usize) -> [u8; 3] {
+    let [_, high, middle, low] = (n as u32).to_be_bytes();
+    [high, middle, low]
+}
+
+// Answers, 23, and each refusal of settings before the next one.
+fn judgings(boards: &[FreeCellBoard]) -> Vec<Call> {
+    let ask = |board: &FreeCellBoard, budget: usize, partial: u8, scratch: [u8; 4]| {
+        let bytes = [&number(budget)[..], &scratch].concat();
+        call("judge", board).bytes(&bytes).kind(partial)
+    };
+    let (one, two, none) = ([3, 1, 2, 2], [8, 3, 4, 6], [2, 1, 2, 2]);
+    let mut calls = Vec::new();
+    for board in boards {
+        for budget in [0, 1, 2] {
+            for partial in [0, 1] {
+                calls.extend([one, two].map(|scratch| ask(board, budget, partial, scratch)));
+            }
+        }
+    }
+    let s = &boards[0];
+    calls.extend([
+        ask(s, MOST_POPS, 0, two),
+        ask(s, MOST_POPS + 1, 0, two),
+        ask(s, MOST_POPS + 1, 0, none).room(LIST - 1),
+        ask(s, 2, 1, two).room(LIST + 2),
+        ask(s, 2, 1, none).room(LIST - 1),
+    ]);
+    for scratch in [none, [3, 0, 2, 2], [3, 1, 1, 2], [3, 1, 2, 1]] {
+        calls.push(ask(s, 2, 255, scratch));
+    }
+    calls
+}
+
+// Any two features differ on some board.
+fn assert_features_apart(boards: &[FreeCellBoard]) {
+    let all: Vec<[u64; 7]> = boards.iter().map(solver::features).collect();
+    for i in 0..FEATURES {
+        for j in 0..i {
+            assert!(all.iter().any(|features| features[i] != features[j]));
+        }
+    }
+}
+
+fn all_calls(run: &Run) -> Vec<Call> {
+    let mut draws = run.draws(7, 0);
+    let boards = on_boards(&mut draws);
+    assert_features_apart(&boards);
+    let mut calls: Vec<Call> = boards.iter().flat_map(plain).collect();
+    for board in &boards[3..] {
+        calls.extend(moved(board));
+        calls.extend(replayed(&mut draws, board));
+    }
+    calls.extend(long_lists(&mut draws, &boards[3]));
+    calls.extend(damaged(&boards[4]));
+    calls.extend(images(&boards[4]));
+    calls.extend(decks(&mut draws, &boards[0]));
+    calls.extend(capacities(&boards[0]));
+    calls.extend(judgings(&boards));
+    calls
+}
+
+pub fn write(run: &Run) -> std::io::Result<()> {
+    let calls = all_calls(run);
+    let mut met: BTreeMap<&str, BTreeMap<String, usize>> = BTreeMap::new();
+    let (mut input, mut output) = (Vec::new(), String::new());
+    for call in &calls {
+        let line = call.line();
+        let number = line.split(' ').nth(1).unwrap().to_string();
+        *met.entry(call.function)
+            .or_default()
+            .entry(number)
+            .or_default() += 1;
+        input.extend(call.input());
+        output += &line;
+    }
+    assert!(input.len() < INPUT);
+    println!("calls: {}, {} bytes of input", calls.len(), input.len());
+    for (function, numbers) in met {
+        println!("  {function}: {numbers:?}");
+    }
+    let folder = Path::new(env!("CARGO_MANIFEST_DIR")).join("../crates/oracle_calls");
+    std::fs::write(folder.join("stdin"), input)?;
+    std::fs::write(folder.join("stdout"), output)
+}
