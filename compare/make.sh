@@ -3,7 +3,8 @@
 # SOURCES is the original's folder solver-core-rs/src (it has common/ and freecell/). Needs rustc and nothing else.
 # Writes stdin and stdout of crates/oracle_boards (boards.rs), oracle_moves (moves.rs), oracle_signatures (signatures.rs,
 # with the published hashes of fnv-vectors.txt), oracle_scores (scores.rs, with hooks.rs added to the copy of solver.rs) and,
-# after the inputs made by hand, texts (texts.rs); the same sources always give the same bytes.
+# after the inputs made by hand, texts (texts.rs); the same sources always give the same bytes. In the copies each weight is
+# a call, so that scores.rs can change one (turned.rs).
 set -eu
 if [ $# -ne 1 ]; then
     echo "usage: $0 SOURCES" >&2
@@ -15,11 +16,11 @@ room=$(mktemp -d)
 trap 'rm -rf "$room"' EXIT
 mkdir "$room/common" "$room/freecell"
 cat "$1/common/card.rs" > "$room/common/card.rs"
-for file in board solver weights; do
-    cat "$1/freecell/$file.rs" > "$room/freecell/$file.rs"
-done
+cat "$1/freecell/board.rs" > "$room/freecell/board.rs"
+cat "$1/freecell/solver.rs" "$here/hooks.rs" | sed 's/weights::[A-Z_][A-Z_]*/&()/g' > "$room/freecell/solver.rs"
+sed 's/^pub const \([A-Z_]*\): \(.*\) = \([^;]*\);/pub fn \1() -> \2 { turned("\1", \3) as \2 }/' \
+    "$1/freecell/weights.rs" "$here/turned.rs" > "$room/freecell/weights.rs"
 cat "$here/shared.rs" > "$room/shared.rs"
-cat "$here/hooks.rs" >> "$room/freecell/solver.rs"
 for driver in boards moves signatures scores texts; do
     crate=$crates/oracle_$driver
     [ "$driver" != texts ] || crate=$crates/texts

@@ -97,18 +97,29 @@ fn kept(room: &[u8], from: usize) -> usize {
     n
 }
 
-// The token, and how many bytes of its room it left alone.
-fn token(b: Board) {
-    let mut out = [MARK; 40];
-    match score::progress_token(b, &mut out) {
+// The token in some room, or why not, and how many bytes of the room are as they were.
+fn token(b: Board, out: &mut [u8]) {
+    let mut written = 0;
+    match score::progress_token(b, out) {
         CountAnswer::Count(n) => {
-            beginning(&out, n);
-            space();
-            io::print_decimal(1, kept(&out, n) as u64);
+            beginning(out, n);
+            written = n;
         }
         CountAnswer::Refused(why) => refusal(why),
     }
+    space();
+    io::print_decimal(1, kept(out, written) as u64);
     line_end();
+}
+
+// The token with room to spare, with just enough, and with a byte too little.
+fn tokens(b: Board) {
+    let mut spare = [MARK; 40];
+    token(b, &mut spare);
+    let mut enough = [MARK; 32];
+    token(b, &mut enough);
+    let mut short = [MARK; 31];
+    token(b, &mut short);
 }
 
 fn is_safe(b: Board, code: u8) -> u64 {
@@ -241,7 +252,7 @@ fn of_board(b: Board) {
     space();
     score(score::progress_of(b));
     line_end();
-    token(b);
+    tokens(b);
     safe_cards(b);
     first_safe(b);
     chain(b);

@@ -131,6 +131,12 @@ run-top (x ∷ l) (suc j) h = by-run (isRun (x ∷ l)) refl (run-top l j (le-of-
     by-run true e i = run-rest (x ∷ l) (suc j) h e ∙ sym (le-leb (suc (length l) - suc j) (suc (length l)) (omega arith))
     by-run false e i = i ∙ ap (λ (n : ℕ). leb n (runLength l)) (let q : length l - j ≡ suc (length l) - suc j = omega arith in q)
 
+-- a place within a column of a record has a card
+pub card-in : {counts tableau : List ℕ} → GoodColumns counts tableau → (i place : ℕ) → i < 8 → i * 52 ≤ place → place < i * 52 + getD counts i 0
+    → isCard (getD tableau place 0) ≡ true
+card-in {counts} {tableau} g i place h a b =
+    subst (λ (p : ℕ). isCard (getD tableau p 0) ≡ true) (let q : i * 52 + (place - i * 52) ≡ place = omega arith in q) (g .codes i (place - i * 52) h (omega arith))
+
 -- ---- one step down a column of a record: its run of `run` cards, and the card under it
 
 module _ {counts tableau : List ℕ} (g : GoodColumns counts tableau) (i w run : ℕ) (h : i < 8) (e : w ≡ getD counts i 0) (one : 1 ≤ run) (some : run < w) where
@@ -145,13 +151,6 @@ module _ {counts tableau : List ℕ} (g : GoodColumns counts tableau) (i w run :
 
   under-place : i * 52 + (w - run) - 1 ≡ i * 52 + (w - suc run)
   under-place = omega arith
-
-  pub under-card : isCard under ≡ true
-  under-card =
-      subst (λ (p : ℕ). isCard (getD tableau p 0) ≡ true) (sym under-place) (g .codes i (w - suc run) h (omega arith))
-
-  pub deepest-card : isCard deepest ≡ true
-  deepest-card = g .codes i (w - run) h (omega arith)
 
   -- both as cards of the column
   step : follows under deepest ≡ follows (getD col (w - suc run) 0) (getD col (suc (w - suc run)) 0)

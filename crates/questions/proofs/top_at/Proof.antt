@@ -1,6 +1,5 @@
 -- What `top_at` leaves to be shown: the last card of the column, if it has one.
 use mathlib.Core.Path.{ap, _∙_}
-use Prim.Native.Nat.{_-_}
 use native.Mathlib.Omega.{arith}
 use Rattle.questions.specs.declared.Top.the-variants.{Is}
 use Rattle.questions.proofs.Asking.{no-top, a-top}
@@ -34,7 +33,7 @@ element-copy-out-card-of c =
 
 card-of-requires : tie.Need-card-of-requires
 card-of-requires c κs =
-    c .before .before .before .before .pre .0 .codes (c .before .before .before .before .args .i) (c .before .before .wide .result - 1) (c .before .before .before .before .pre .1) (omega (arith, c .before .before .wide .ensures, c .before .if1 .left))
+    c .before .before .before .before .pre .0 .codes (c .before .before .before .before .args .i) _ (c .before .before .before .before .pre .1) (omega (arith, c .before .before .wide .ensures, c .before .if1 .left))
 
 returns-2 : tie.Need-returns-2
 returns-2 c =

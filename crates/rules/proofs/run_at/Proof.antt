@@ -9,7 +9,7 @@ use Rattle.card.proofs.Words.{first}
 use Rattle.board.specs.Record.{columnAt}
 use Rattle.board.proofs.Soundness.{column-length}
 use Rattle.rules.specs.Run.{isRun}
-use Rattle.rules.proofs.Laying.{run-one, run-none, under-card, deepest-card, run-grows, run-stops, run-all}
+use Rattle.rules.proofs.Laying.{run-one, run-none, card-in, run-grows, run-stops, run-all}
 use borrow.Author.Needs.{needs}
 use Rattle.rules.proofs.run_at.Statement.{statement}
 use Rattle.rules.proofs.run_at.Tie as tie
@@ -57,7 +57,7 @@ element-copy-out-may-lie-on-2 c =
 
 may-lie-on-requires : tie.Need-may-lie-on-requires Inv-loop μ-loop
 may-lie-on-requires c κs =
-    (under-card (c .before .before .before .before .before .before .before .pre .0) (c .before .before .before .before .before .before .before .args .i) (c .before .before .before .before .before .wide .result) (c .before .before .before .loop .run) (c .before .before .before .before .before .before .before .pre .1) (c .before .before .before .before .before .wide .ensures) (c .before .before .before .loop .inv .0) (c .before .before .loop-test .taken), deepest-card (c .before .before .before .before .before .before .before .pre .0) (c .before .before .before .before .before .before .before .args .i) (c .before .before .before .before .before .wide .result) (c .before .before .before .loop .run) (c .before .before .before .before .before .before .before .pre .1) (c .before .before .before .before .before .wide .ensures) (c .before .before .before .loop .inv .0) (c .before .before .loop-test .taken))
+    (card-in (c .before .before .before .before .before .before .before .pre .0) (c .before .before .before .before .before .before .before .args .i) _ (c .before .before .before .before .before .before .before .pre .1) (omega (arith, c .before .before .before .before .before .wide .ensures, c .before .before .before .loop .inv .0, c .before .before .loop-test .taken)) (omega (arith, c .before .before .before .before .before .wide .ensures, c .before .before .before .loop .inv .0, c .before .before .loop-test .taken)), card-in (c .before .before .before .before .before .before .before .pre .0) (c .before .before .before .before .before .before .before .args .i) _ (c .before .before .before .before .before .before .before .pre .1) (omega (arith, c .before .before .before .before .before .wide .ensures, c .before .before .before .loop .inv .0, c .before .before .loop-test .taken)) (omega (arith, c .before .before .before .before .before .wide .ensures, c .before .before .before .loop .inv .0, c .before .before .loop-test .taken)))
 
 returns-2 : tie.Need-returns-2 Inv-loop μ-loop
 returns-2 c =

@@ -13,7 +13,7 @@ enum-known-f : tie.Need-enum-known-f
 enum-known-f c = search needs
 
 returns : tie.Need-returns
-returns c = writes-no (c .before .before .before .before .before .before .args .b) (c .before .before .before .before .before .before .args .out .now) (token-short (c .before .before .before .before .before .before .args .b) (c .before .before .before .before .before .before .args .out .now) (c .before .before .before .before .features-of .ensures) (c .before .before .f .given .1) (c .if1 .taken))
+returns c = writes-no (c .before .before .before .before .before .before .args .b) (c .before .before .before .before .before .before .args .out .now) (token-short (c .before .before .before .before .before .before .args .b) (c .before .before .before .before .before .before .args .out .now) (c .before .before .before .before .features-of .ensures) (c .before .before .f .given .1) (omega (arith, c .if1 .taken)))
 
 token-at-requires : tie.Need-token-at-requires
 token-at-requires c κs = (told-small (c .before .before .before .before .before .before .before .args .b) (c .before .before .before .before .before .features-of .ensures) (c .before .before .before .f .given .1) (record { four = search needs; piles = search needs; eight = search needs; full = search needs }), (let l = token-32 (c .before .before .before .f .given .0 .0) (told-small (c .before .before .before .before .before .before .before .args .b) (c .before .before .before .before .before .features-of .ensures) (c .before .before .before .f .given .1) (record { four = search needs; piles = search needs; eight = search needs; full = search needs })) in omega (arith, c .before .if1 .left)))
@@ -25,7 +25,7 @@ same-length : tie.Need-same-length
 same-length c = search needs
 
 returns-2 : tie.Need-returns-2
-returns-2 c = writes-yes (c .before .before .before .before .before .before .before .before .before .before .args .b) (c .before .before .before .before .before .before .before .before .before .before .args .out .now) (c .before .before .before .before .before .before .before .before .features-of .ensures) (c .before .before .before .before .before .before .f .given .1) (c .before .before .before .before .if1 .left) (c .before .before .token-at .ensures)
+returns-2 c = writes-yes (c .before .before .before .before .before .before .before .before .before .before .args .b) (c .before .before .before .before .before .before .before .before .before .before .args .out .now) (c .before .before .before .before .before .before .before .before .features-of .ensures) (c .before .before .before .before .before .before .f .given .1) (omega (arith, c .before .before .before .before .if1 .left)) (c .before .before .token-at .ensures)
 
 returns-3 : tie.Need-returns-3
 returns-3 c = writes-no (c .before .before .before .before .before .args .b) (c .before .before .before .before .before .args .out .now) (token-refused (c .before .before .before .before .before .args .b) (c .before .before .before .before .before .args .out .now) (c .before .before .before .features-of .ensures) (c .before .why .given .1))

@@ -49,7 +49,7 @@ returns-3 c =
 
 most-at-requires : tie.Need-most-at-requires
 most-at-requires c κs =
-    (c .before .before .before .before .before .before .before .before .before .before .before .pre .0 .inCells, (c .before .before .before .before .before .before .before .before .before .before .before .pre .0 .inColumns, (ltb-true (c .before .before .before .before .before .before .before .before .before .before .before .args .destination) 8 (said-to _ (c .before .before .before .before .before .before .before .before .before .before .before .pre .1)))))
+    (c .before .before .before .before .before .before .before .before .before .before .before .pre .0 .inCells, (c .before .before .before .before .before .before .before .before .before .before .before .pre .0 .inColumns, omega (arith, ltb-true (c .before .before .before .before .before .before .before .before .before .before .before .args .source) 8 (said-from _ (c .before .before .before .before .before .before .before .before .before .before .before .pre .1)), ltb-true (c .before .before .before .before .before .before .before .before .before .before .before .args .destination) 8 (said-to _ (c .before .before .before .before .before .before .before .before .before .before .before .pre .1)))))
 
 returns-4 : tie.Need-returns-4
 returns-4 c =

@@ -24,7 +24,7 @@ loop-holds : tie.Need-loop-holds Inv-loop μ-loop
 loop-holds c = (search needs, search needs, sym (sum-none _))
 
 cell-home-requires : tie.Need-cell-home-requires Inv-loop μ-loop
-cell-home-requires c κs = (c .before .before .pre .0, (c .before .before .pre .1, c .loop-test .taken))
+cell-home-requires c κs = (c .before .before .pre .0, (c .before .before .pre .1, omega (arith, c .loop-test .taken)))
 
 add-n : tie.Need-add-n Inv-loop μ-loop
 add-n c = omega (arith, c .cell-home .ensures, by-most (lastGoesHome (c .before .before .before .args .foundation .now) (held (getD (c .before .before .before .args .cells .now) (c .before .before .loop .i) 0 ∷ []))) 1)

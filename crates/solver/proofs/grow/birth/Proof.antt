@@ -16,7 +16,7 @@ add-sum : tie.Need-add-sum
 add-sum c = omega (arith, birth-sum (c .before .before .before .before .before .before .before .before .before .before .before .pre) (c .before .compute-features .ensures) (c .heuristic-key .ensures))
 
 pack-requires : tie.Need-pack-requires
-pack-requires c κs = (birth-sum (c .before .before .before .before .before .before .before .before .before .before .before .pre) (c .before .compute-features .ensures) (c .heuristic-key .ensures), (hope-fits (c .before .before .before .before .before .before .before .before .before .before .before .pre .sound) (c .before .compute-features .ensures) (c .heuristic-key .ensures), birth-number (c .before .before .before .before .before .before .before .before .before .before .before .pre)))
+pack-requires c κs = (birth-sum (c .before .before .before .before .before .before .before .before .before .before .before .pre) (c .before .compute-features .ensures) (c .heuristic-key .ensures), (hope-fits (c .before .before .before .before .before .before .before .before .before .before .before .pre .sound) (c .before .compute-features .ensures) (c .heuristic-key .ensures), omega (arith, birth-number (c .before .before .before .before .before .before .before .before .before .before .before .pre), c .before .before .before .before .before .before .before .before .before .before .before .pre .waits)))
 
 cast-byte : tie.Need-cast-byte
 cast-byte c = omega (arith, c .before .before .before .before .before .before .before .before .before .before .before .before .pre .short)
