@@ -2,7 +2,7 @@
 # Measures our search beside the original Rust's, in one run and one thread: bench/run.sh SOURCES [NAME=NUMBER..]
 # SOURCES is the original's folder solver-core-rs/src. NAME: first, last (deal numbers), budget, long (how many of the deals
 # that end at the limit are run again at 1,000,000 pops). Needs rt and cargo; nothing else should run on the machine.
-# CORBELNIB_ARCHIVE, if set, is a folder with a libcabinet.a that is taken as it is.
+# CORBELNIB_ARCHIVE, if set, is a folder with a libcorbelnib.a that is taken as it is.
 set -eu
 if [ $# -lt 1 ]; then
     echo "usage: $0 SOURCES [NAME=NUMBER..]" >&2

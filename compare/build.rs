@@ -36,8 +36,8 @@ fn main() {
     println!("cargo:rustc-env=CORBELNIB_SOLVER={}", solver.display());
     println!(
         "cargo:rerun-if-changed={}",
-        archive.join("libcabinet.a").display()
+        archive.join("libcorbelnib.a").display()
     );
     println!("cargo:rustc-link-search=native={}", archive.display());
-    println!("cargo:rustc-link-lib=static=cabinet");
+    println!("cargo:rustc-link-lib=static=corbelnib");
 }

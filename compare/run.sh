@@ -5,7 +5,7 @@
 # samples of the original's answers (crates/oracle_judge, crates/oracle_calls); NAME is seed, threads, first, steps, or a
 # work for the number of its tasks. It ends with status 1 at the first difference, and says it with the smallest board that
 # shows it.
-# Needs rt and cargo. CORBELNIB_ARCHIVE, if set, is a folder with a libcabinet.a that is taken as it is.
+# Needs rt and cargo. CORBELNIB_ARCHIVE, if set, is a folder with a libcorbelnib.a that is taken as it is.
 set -eu
 if [ $# -lt 1 ]; then
     echo "usage: $0 SOURCES [WORK..] [NAME=NUMBER..]" >&2

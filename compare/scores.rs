@@ -34,7 +34,7 @@ use shared::{drawn_move, hex, image, is_long, made_up, moves_by_kind, record, wo
 const TOKEN_ROOMS: [usize; 3] = [40, 32, 31];
 const CANDIDATE_ROOM: usize = 4190;
 
-// The least room that document 01 asks for, though a token may be shorter.
+// The least room that SCOPE.md asks for, though a token may be shorter.
 const TOKEN_ROOM: usize = 32;
 
 fn token_text(token: &str, room: usize) -> String {

@@ -1,6 +1,6 @@
 /* Corbelnib: a FreeCell judge for controller programs.
  *
- * Link with libcabinet.a (README says how it is built). No function allocates, blocks, keeps anything between calls or traps;
+ * Link with libcorbelnib.a (README says how it is built). No function allocates, blocks, keeps anything between calls or traps;
  * each ends. Two threads may call at once if they lend different memory. The archive wants memcpy and memset from outside, and
  * nothing else. Stack, measured on aarch64 and x86-64: corbelnib_judge 23 KB, corbelnib_candidates 15 KB, every other function under
  * 3 KB (docs/MEMORY.md).

@@ -12,7 +12,7 @@ imports() { # FILE
 }
 
 seen=" "
-todo=$(imports crates/cabinet/src/lib.rt
+todo=$(imports crates/corbelnib/src/lib.rt
     for file in crates/demands/specs/*.antt; do
         name=${file##*/}
         [ "$name" = Lib.antt ] || echo "demands/${name%.antt}"

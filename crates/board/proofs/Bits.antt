@@ -7,8 +7,8 @@ use native.Mathlib.Omega.{arith}
 use lib.Dec.{lit<}
 use lib.Pow.{shr-shr, shl-exact}
 use lib.Count.{ones, ones-step, ones-le}
-use Rattle.card.proofs.Sums.{sum-none, sum-first, sum-same}
-use Rattle.card.specs.Words.{sum}
+use Rattle.base.proofs.Sums.{sum-none, sum-first, sum-same}
+use Rattle.base.specs.Words.{sum}
 use Rattle.board.specs.Inner.{bitAt}
 
 pub bit-first : (n : ℕ) → bitAt n 0 ≡ n % 2

@@ -7,13 +7,13 @@ use native.Mathlib.Omega.{arith}
 use borrow.Author.Tests.{eq-eqb, ne-eqb}
 use lib.Dec.{eqb}
 use lib.ListN.{length}
-use Rattle.card.specs.Words.{all, occurs, sum}
+use Rattle.base.specs.Words.{all, occurs, sum}
 use Rattle.card.specs.Card.{isCard}
 use Rattle.card.specs.Pack.{cardAt, placeOf}
-use Rattle.card.proofs.Words.{first, second}
-use Rattle.card.proofs.Sums.{sum-add, sum-one, sum-zero, sum-ones, sum-full}
+use Rattle.base.proofs.Words.{first, second}
+use Rattle.base.proofs.Sums.{sum-add, sum-one, sum-zero, sum-ones, sum-full}
 use Rattle.card.proofs.Codes.{at-place, place-at, place-below}
-use Rattle.board.specs.Judged.{noneTwice}
+use Rattle.board.specs.Verdict.{noneTwice}
 use Rattle.board.proofs.Marks.{none-twice-at}
 
 -- a card is one card of the pack

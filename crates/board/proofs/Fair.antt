@@ -8,19 +8,19 @@ use native.Mathlib.Omega.{arith}
 use borrow.Author.Tests.{eq-eqb, eqb-true, le-leb}
 use lib.Dec.{eqb}
 use lib.ListN.{length, getD, replicate, getD-replicate}
-use Rattle.card.specs.Words.{all, occurs, listed, concat}
+use Rattle.base.specs.Words.{all, occurs, listed, concat}
 use Rattle.card.specs.Card.{isCard}
 use Rattle.card.specs.Pack.{cardAt}
-use Rattle.card.proofs.Words.{both, first, second, all-by, every-at, every-by, length-listed}
+use Rattle.base.proofs.Words.{both, first, second, all-by, every-at, every-by, length-listed}
 use Rattle.board.specs.Table.{Table, pile, piles, held, cardsOn}
-use Rattle.board.specs.Judged.{fine, isCell, onlyCards, noneTwice, noneMissing, judged}
+use Rattle.board.specs.Verdict.{fine, isCell, onlyCards, noneTwice, noneMissing, verdictOn}
 use Rattle.board.specs.Record.{atMost, columnAt, shown, shapely, examined, boardOf}
 use Rattle.board.specs.Fair.{Seats, Fair, isFair}
 use Rattle.board.specs.Inner.{GoodPiles, Sound, Sized}
 use Rattle.board.specs.declared.Board.{Board}
 use Rattle.board.proofs.Tables.{at-most}
 use Rattle.board.proofs.Marks.{none-twice, none-twice-at, none-missing, none-missing-at}
-use Rattle.board.proofs.Judging.{good-shape}
+use Rattle.board.proofs.Verdicts.{good-shape}
 use Rattle.board.proofs.Soundness.{passed, sound, sound-shape, sound-fine}
 use Rattle.board.proofs.Records.{Laid, sized-of-record, fine-of-record}
 use Rattle.board.proofs.Fitting.{fits}
@@ -30,18 +30,18 @@ fair-piles f = record { four = f .seats .piles4; within = f .kings }
 
 -- ---- the judgement
 
-pub fair-judged : {t : Table} → Fair t → judged t ≡ fine
-unfolding judged
-fair-judged {t} f =
+pub fair-fine : {t : Table} → Fair t → verdictOn t ≡ fine
+unfolding verdictOn
+fair-fine {t} f =
     rw (
       f .cards,
       none-twice (cardsOn t) (λ k h. let o = f .once k h in omega arith),
       none-missing (cardsOn t) (λ k h. let o = f .once k h in omega arith),
     )
 
-pub judged-fair : {t : Table} → Seats t → GoodPiles (t .foundation) → judged t ≡ fine → Fair t
-unfolding judged
-judged-fair {t} s g e =
+pub fine-fair : {t : Table} → Seats t → GoodPiles (t .foundation) → verdictOn t ≡ fine → Fair t
+unfolding verdictOn
+fine-fair {t} s g e =
     let o = passed (onlyCards t) 13 _ e in
     let w = passed (noneTwice (cardsOn t)) 14 _ (o .1) in
     let m = passed (noneMissing (cardsOn t)) 15 _ (w .1) in
@@ -104,7 +104,7 @@ passes-fair {t} e =
 pub shows-fair : {b : Board} → Sound b → Fair (shown b)
 unfolding shown
 shows-fair {b} s =
-    judged-fair
+    fine-fair
     (record { four = s .inCells .four; piles4 = s .inPiles .four; eight = length-listed (columnAt (b .counts) (b .tableau)) 8 })
     (s .inPiles) (sym (good-shape b (sound-shape s)) ∙ sound-fine s)
 
@@ -113,11 +113,11 @@ pub accepted-fair : (b : Board) → Sized b → examined b ≡ fine → (shapely
 accepted-fair b z e = let s = sound b z e in (sound-shape s, shows-fair s)
 
 pub fair-accepted : (b : Board) → shapely b ≡ true → Fair (shown b) → examined b ≡ fine
-fair-accepted b e f = good-shape b e ∙ fair-judged f
+fair-accepted b e f = good-shape b e ∙ fair-fine f
 
 -- no column of a fair table is over its room
 pub fair-laid : (t : Table) → Fair t → Laid t
-fair-laid t f = fits t (f .seats .four) (fair-piles f) (f .seats .eight) (fair-judged f)
+fair-laid t f = fits t (f .seats .four) (fair-piles f) (f .seats .eight) (fair-fine f)
 
 pub fair-sound : (t : Table) → Fair t → Sound (boardOf t)
-fair-sound t f = let l = fair-laid t f in sound (boardOf t) (sized-of-record t l) (fine-of-record t l (fair-judged f))
+fair-sound t f = let l = fair-laid t f in sound (boardOf t) (sized-of-record t l) (fine-of-record t l (fair-fine f))

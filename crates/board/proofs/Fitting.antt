@@ -8,12 +8,12 @@ use native.Mathlib.Decide.{ℕ-discrete}
 use borrow.Author.Tests.{eq-eqb, ne-eqb}
 use lib.Dec.{eqb}
 use lib.ListN.{length, getD, length-append}
-use Rattle.card.specs.Words.{all, listed, concat}
+use Rattle.base.specs.Words.{all, listed, concat}
 use Rattle.card.specs.Card.{isCard}
-use Rattle.card.proofs.Words.{both, first, second, all-append, all-by, all-concat, every-by, length-listed, getD-listed}
+use Rattle.base.proofs.Words.{both, first, second, all-append, all-by, all-concat, every-by, length-listed, getD-listed}
 use Rattle.card.proofs.Codes.{code-in-suit}
 use Rattle.board.specs.Table.{Table, pile, piles, held, cardsOn}
-use Rattle.board.specs.Judged.{fine, isCell, onlyCards, noneTwice, judged}
+use Rattle.board.specs.Verdict.{fine, isCell, onlyCards, noneTwice, verdictOn}
 use Rattle.board.specs.Inner.{GoodPiles}
 use Rattle.board.proofs.Tables.{cell-is-card}
 use Rattle.board.proofs.Soundness.{passed}
@@ -61,8 +61,8 @@ column-among : (t : Table) (i : ℕ) → length (getD (t .columns) i []) ≤ len
 unfolding cardsOn
 column-among t i = let e = one-of-them (t .columns) i in simp length-append (omega arith)
 
-pub fits : (t : Table) → length (t .cells) ≡ 4 → GoodPiles (t .foundation) → length (t .columns) ≡ 8 → judged t ≡ fine → Laid t
-unfolding judged
+pub fits : (t : Table) → length (t .cells) ≡ 4 → GoodPiles (t .foundation) → length (t .columns) ≡ 8 → verdictOn t ≡ fine → Laid t
+unfolding verdictOn
 fits t four g eight e =
     let o = passed (onlyCards t) 13 _ e in
     let w = passed (noneTwice (cardsOn t)) 14 _ (o .1) in

@@ -2,10 +2,11 @@
 pub mod Bits
 pub mod Marks
 pub mod Tables
-pub mod Judging
+pub mod Verdicts
 pub mod Soundness
 pub mod Counting
 pub mod Records
 pub mod Fitting
 pub mod Fair
+pub mod Renumbering
 pub mod Unique

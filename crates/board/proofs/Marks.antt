@@ -9,13 +9,13 @@ use native.Mathlib.Decide.{ℕ-discrete}
 use lib.Count.{ones}
 use lib.Dec.{leb}
 use borrow.Author.Tests.{leb-true, le-leb, lt-leb}
-use Rattle.card.specs.Words.{occurs, listed, concat}
+use Rattle.base.specs.Words.{occurs, listed, concat}
 use Rattle.card.specs.Card.{isCard}
 use Rattle.card.specs.Pack.{cardAt, placeOf}
-use Rattle.card.proofs.Words.{concat-none, concat-more, concat-split, occurs-none, occurs-here, occurs-other, occurs-append, every-at, every-by, every-fails, not-so}
-use Rattle.card.proofs.Sums.{sum-full, sum-all}
+use Rattle.base.proofs.Words.{concat-none, concat-more, concat-split, occurs-none, occurs-here, occurs-other, occurs-append, every-at, every-by, every-fails, not-so}
+use Rattle.base.proofs.Sums.{sum-full, sum-all}
 use Rattle.card.proofs.Codes.{at-place, place-at, place-below}
-use Rattle.board.specs.Judged.{noneTwice, noneMissing}
+use Rattle.board.specs.Verdict.{noneTwice, noneMissing}
 use Rattle.board.specs.Inner.{bitAt, Holds, Knows, Marks}
 use Rattle.board.specs.declared.Seen.{Seen}
 use Rattle.board.specs.declared.Seen.the-variants.{Cards, Twice}

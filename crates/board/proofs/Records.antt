@@ -7,26 +7,26 @@ use native.Mathlib.Omega.{arith}
 use native.Mathlib.Decide.{decLt}
 use lib.ListN.{length, getD, drop, length-take, length-drop, List·getD-eq-default}
 use lib.Seq.{ext-getD, getD-take, getD-drop}
-use Rattle.card.specs.Words.{listed}
-use Rattle.card.proofs.Words.{listed-same, length-listed, getD-listed}
+use Rattle.base.specs.Words.{listed}
+use Rattle.base.proofs.Words.{listed-same, length-listed, getD-listed}
 use Rattle.board.specs.Table.{Table}
-use Rattle.board.specs.Judged.{fine, judged}
-use Rattle.board.specs.Record.{room, columnAt, shown, shapely, examined, boardOf}
+use Rattle.board.specs.Verdict.{fine, verdictOn}
+use Rattle.board.specs.Record.{room, columnAt, shown, shapely, examined, boardOf, laid, tableauRoom}
 use Rattle.board.specs.Inner.{GoodPiles, GoodColumns, Sized}
 use Rattle.board.specs.declared.Board.{Board}
-use Rattle.board.proofs.Judging.{good-shape}
+use Rattle.board.proofs.Verdicts.{good-shape}
 use Rattle.board.proofs.Soundness.{column-length, column-code, shape-of}
 
 -- the record of eight columns, count by count and place by place
 module _ (cells foundation : List ℕ) (f : ℕ → List ℕ) where
   pub record-of-columns : boardOf (record { cells = cells; foundation = foundation; columns = listed 8 f })
-      ≡ record { cells = cells; foundation = foundation; counts = listed 8 (λ i. length (f i)); tableau = listed (8 * room) (λ p. getD (f (p / room)) (p % room) 0) }
+      ≡ laid cells foundation (listed 8 (λ i. length (f i))) (listed tableauRoom (λ p. getD (f (p / room)) (p % room) 0))
   unfolding boardOf
   record-of-columns =
-      ap (λ (c : List ℕ). record { cells = cells; foundation = foundation; counts = c; tableau = listed (8 * room) inColumns })
+      ap (λ (c : List ℕ). laid cells foundation c (listed tableauRoom inColumns))
       (listed-same (λ i. length (getD (listed 8 f) i [])) (λ i. length (f i)) 8 (λ i h. ap length (getD-listed f 8 i [] h)))
-      ∙ ap (λ (t : List ℕ). record { cells = cells; foundation = foundation; counts = listed 8 (λ i. length (f i)); tableau = t })
-      (listed-same inColumns (λ p. getD (f (p / room)) (p % room) 0) (8 * room)
+      ∙ ap (λ (t : List ℕ). laid cells foundation (listed 8 (λ i. length (f i))) t)
+      (listed-same inColumns (λ p. getD (f (p / room)) (p % room) 0) tableauRoom
       (λ p h. ap (λ (l : List ℕ). getD l (p % room) 0) (getD-listed f 8 (p / room) [] (omega arith))))
     where
       inColumns : ℕ → ℕ
@@ -55,20 +55,20 @@ module _ (b : Board) (g : GoodColumns (b .counts) (b .tableau)) where
       by-side (no m) =
           List·getD-eq-default (column i) 0 (let n = column-length g i h in omega arith) ∙ sym (g .spare i j h (omega arith) l)
 
-  same-codes : listed (8 * room) (λ p. getD (column (p / room)) (p % room) 0) ≡ b .tableau
+  same-codes : listed tableauRoom (λ p. getD (column (p / room)) (p % room) 0) ≡ b .tableau
   same-codes =
-      listed-same (λ p. getD (column (p / room)) (p % room) 0) (λ p. getD (b .tableau) p 0) (8 * room)
+      listed-same (λ p. getD (column (p / room)) (p % room) 0) (λ p. getD (b .tableau) p 0) tableauRoom
       (λ p h. code-there (p / room) (p % room) (omega arith) (omega arith)
       ∙ ap (λ (q : ℕ). getD (b .tableau) q 0) (let q : p / room * room + p % room ≡ p = omega arith in q))
-      ∙ listed-back (b .tableau) (8 * room) (g .full)
+      ∙ listed-back (b .tableau) tableauRoom (g .full)
 
   -- the record of what a record shows is that record
   pub record-of-shown : boardOf (shown b) ≡ b
   unfolding shown
   record-of-shown =
       record-of-columns (b .cells) (b .foundation) column
-      ∙ ap (λ (c : List ℕ). record { cells = b .cells; foundation = b .foundation; counts = c; tableau = listed (8 * room) (λ p. getD (column (p / room)) (p % room) 0) }) same-counts
-      ∙ ap (λ (t : List ℕ). record { cells = b .cells; foundation = b .foundation; counts = b .counts; tableau = t }) same-codes
+      ∙ ap (λ (c : List ℕ). laid (b .cells) (b .foundation) c (listed tableauRoom (λ p. getD (column (p / room)) (p % room) 0))) same-counts
+      ∙ ap (λ (t : List ℕ). laid (b .cells) (b .foundation) (b .counts) t) same-codes
 
 -- two records whose unused room is zero and that show the same table are the same record
 pub determined : (a b : Board) → GoodColumns (a .counts) (a .tableau) → GoodColumns (b .counts) (b .tableau) → shown a ≡ shown b → a ≡ b
@@ -93,14 +93,14 @@ module _ (t : Table) (l : Laid t) where
   counts-of = listed 8 (λ i. length (column-of i))
 
   abbrev tableau-of : List ℕ
-  tableau-of = listed (8 * room) code-of
+  tableau-of = listed tableauRoom code-of
 
   count-at : (i : ℕ) → i < 8 → getD counts-of i 0 ≡ length (column-of i)
   count-at i h = getD-listed (λ i. length (column-of i)) 8 i 0 h
 
   code-at : (i j : ℕ) → i < 8 → j < room → getD tableau-of (i * room + j) 0 ≡ getD (column-of i) j 0
   code-at i j h m =
-      getD-listed code-of (8 * room) (i * room + j) 0 (omega arith)
+      getD-listed code-of tableauRoom (i * room + j) 0 (omega arith)
       ∙ ap (λ (k : ℕ). getD (column-of k) ((i * room + j) % room) 0) (let q : (i * room + j) / room ≡ i = omega arith in q)
       ∙ ap (λ (k : ℕ). getD (column-of i) k 0) (let q : (i * room + j) % room ≡ j = omega arith in q)
 
@@ -111,7 +111,7 @@ module _ (t : Table) (l : Laid t) where
       let s = l .short i h in
       let n = length-take (getD counts-of i 0) (drop (i * room) tableau-of) in
       let d = length-drop (i * room) tableau-of in
-      let f = length-listed code-of (8 * room) in
+      let f = length-listed code-of tableauRoom in
       ext-getD 0 (columnAt counts-of tableau-of i) (column-of i) (omega arith)
       (λ j b. getD-take (getD counts-of i 0) (drop (i * room) tableau-of) j 0 (omega arith)
       ∙ getD-drop (i * room) tableau-of j 0 ∙ code-at i j h (omega arith))
@@ -131,14 +131,14 @@ module _ (t : Table) (l : Laid t) where
   shape-of-record : shapely (boardOf t) ≡ true
   unfolding boardOf
   shape-of-record =
-      shape-of (boardOf t) (l .piles) (length-listed (λ i. length (column-of i)) 8) (length-listed code-of (8 * room))
+      shape-of (boardOf t) (l .piles) (length-listed (λ i. length (column-of i)) 8) (length-listed code-of tableauRoom)
       (λ i h. let c = count-at i h in let s = l .short i h in omega arith)
       (λ i j h a b. code-at i j h b ∙ List·getD-eq-default (column-of i) 0 (let c = count-at i h in omega arith))
 
-  pub fine-of-record : judged t ≡ fine → examined (boardOf t) ≡ fine
-  fine-of-record e = good-shape (boardOf t) shape-of-record ∙ ap judged shown-of-record ∙ e
+  pub fine-of-record : verdictOn t ≡ fine → examined (boardOf t) ≡ fine
+  fine-of-record e = good-shape (boardOf t) shape-of-record ∙ ap verdictOn shown-of-record ∙ e
 
   pub sized-of-record : Sized (boardOf t)
   unfolding boardOf
   sized-of-record =
-      record { four = l .four; piles = l .piles .four; eight = length-listed (λ i. length (column-of i)) 8; full = length-listed code-of (8 * room) }
+      record { four = l .four; piles = l .piles .four; eight = length-listed (λ i. length (column-of i)) 8; full = length-listed code-of tableauRoom }

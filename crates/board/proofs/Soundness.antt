@@ -7,13 +7,13 @@ use native.Mathlib.Omega.{arith}
 use borrow.Author.Tests.{le-leb}
 use lib.ListN.{length, getD, take, drop, length-take, length-drop}
 use lib.Seq.{getD-take, getD-drop}
-use Rattle.card.specs.Words.{all, listed, concat}
-use Rattle.card.specs.Answer.{unless}
+use Rattle.base.specs.Words.{all, listed, concat}
+use Rattle.base.specs.Answer.{unless}
 use Rattle.card.specs.Card.{isCard}
-use Rattle.card.proofs.Words.{both, first, second, every-at, every-by, all-at, all-by, all-concat}
+use Rattle.base.proofs.Words.{both, first, second, every-at, every-by, all-at, all-by, all-concat}
 use Rattle.board.specs.Table.{cardsOn}
-use Rattle.board.specs.Judged.{Verdict, fine, isCell, onlyCards, noneTwice, noneMissing, judged}
-use Rattle.board.specs.Record.{room, atMost, isZero, columnAt, spareAt, shown, shapely, examined}
+use Rattle.board.specs.Verdict.{Verdict, fine, isCell, onlyCards, noneTwice, noneMissing, verdictOn}
+use Rattle.board.specs.Record.{room, atMost, isZero, columnAt, spareAt, shown, shapely, examined, tableauRoom}
 use Rattle.board.specs.Inner.{GoodPiles, GoodColumns, Sound, Sized}
 use Rattle.board.specs.declared.Board.{Board}
 use Rattle.board.proofs.Marks.{none-twice, none-twice-at, none-missing, none-missing-at}
@@ -28,7 +28,7 @@ passed false n v e = let z : _≡_ {A = ℕ} 0 1 = cc in absurd (let w : ⊥ = o
 -- ---- the columns of a record
 
 module _ (counts tableau : List ℕ) (i : ℕ) where
-  column-long : length tableau ≡ 8 * room → i < 8 → getD counts i 0 ≤ room → length (columnAt counts tableau i) ≡ getD counts i 0
+  column-long : length tableau ≡ tableauRoom → i < 8 → getD counts i 0 ≤ room → length (columnAt counts tableau i) ≡ getD counts i 0
   unfolding columnAt
   column-long full h w =
       length-take (getD counts i 0) (drop (i * room) tableau) ∙ (let l = length-drop (i * room) tableau in omega arith)
@@ -37,7 +37,7 @@ module _ (counts tableau : List ℕ) (i : ℕ) where
   unfolding columnAt
   column-code j h = getD-take (getD counts i 0) (drop (i * room) tableau) j 0 h ∙ getD-drop (i * room) tableau j 0
 
-  spare-long : length tableau ≡ 8 * room → i < 8 → getD counts i 0 ≤ room → length (spareAt counts tableau i) ≡ room - getD counts i 0
+  spare-long : length tableau ≡ tableauRoom → i < 8 → getD counts i 0 ≤ room → length (spareAt counts tableau i) ≡ room - getD counts i 0
   unfolding spareAt
   spare-long full h w =
       length-take (room - getD counts i 0) (drop (i * room + getD counts i 0) tableau)
@@ -90,9 +90,9 @@ module _ (b : Board) (z : Sized b) where
       }
 
   pub sound : examined b ≡ fine → Sound b
-  unfolding examined judged onlyCards shown
+  unfolding examined verdictOn onlyCards shown
   sound e =
-      let s = passed (shapely b) 12 (judged (shown b)) e in
+      let s = passed (shapely b) 12 (verdictOn (shown b)) e in
       let o = passed (onlyCards (shown b)) 13 _ (s .1) in
       let t = passed (noneTwice (cardsOn (shown b))) 14 _ (o .1) in
       let m = passed (noneMissing (cardsOn (shown b))) 15 _ (t .1) in
@@ -105,7 +105,7 @@ module _ (b : Board) (z : Sized b) where
 
 -- ---- and from the places to the tests
 
-pub shape-of : (b : Board) → GoodPiles (b .foundation) → length (b .counts) ≡ 8 → length (b .tableau) ≡ 8 * room
+pub shape-of : (b : Board) → GoodPiles (b .foundation) → length (b .counts) ≡ 8 → length (b .tableau) ≡ tableauRoom
     → ((i : ℕ) → i < 8 → getD (b .counts) i 0 ≤ room)
     → ((i j : ℕ) → i < 8 → getD (b .counts) i 0 ≤ j → j < room → getD (b .tableau) (i * room + j) 0 ≡ 0)
     → shapely b ≡ true
@@ -146,7 +146,7 @@ module _ {b : Board} (s : Sound b) where
       subst (λ (x : ℕ). isCard x ≡ true) (sym (column-code (b .counts) (b .tableau) i j m)) (s .inColumns .codes i j h m))))
 
   pub sound-fine : examined b ≡ fine
-  unfolding examined judged
+  unfolding examined verdictOn
   sound-fine =
       rw (
         sound-shape,

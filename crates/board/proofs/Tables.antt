@@ -8,12 +8,12 @@ use lib.Dec.{eqb}
 use lib.ListN.{length, getD, take, drop, length-take, length-drop, List·getD-eq-default}
 use lib.Seq.{getD-take, getD-drop}
 use borrow.Author.Tests.{eq-eqb, ne-eqb, leb-true}
-use Rattle.card.specs.Words.{all, listed, concat}
+use Rattle.base.specs.Words.{all, listed, concat}
 use Rattle.card.specs.Card.{isCard}
-use Rattle.card.proofs.Words.{piecewise, all-at}
+use Rattle.base.proofs.Words.{piecewise, all-at}
 use Rattle.board.specs.Table.{held}
-use Rattle.board.specs.Judged.{isCell}
-use Rattle.board.specs.Record.{atMost, spareAt}
+use Rattle.board.specs.Verdict.{isCell}
+use Rattle.board.specs.Record.{atMost, spareAt, room}
 use Rattle.board.specs.Inner.{GoodCells, GoodPiles, partAt}
 
 -- ---- cells
@@ -80,11 +80,11 @@ module _ (starts counts codes : List ℕ) (i : ℕ) where
       ap (λ (n : ℕ). take n (drop (getD starts i 0) codes)) c ∙ ap (λ (n : ℕ). take count (drop n codes)) s
 
 pub spare-is : (counts tableau : List ℕ) (i w : ℕ) → w ≡ getD counts i 0
-    → take ((i * 52 + 52) - (i * 52 + w)) (drop (i * 52 + w) tableau) ≡ spareAt counts tableau i
+    → take ((i * room + 52) - (i * room + w)) (drop (i * room + w) tableau) ≡ spareAt counts tableau i
 unfolding spareAt
 spare-is counts tableau i w e =
-    ap (λ (n : ℕ). take n (drop (i * 52 + w) tableau)) (let q : (i * 52 + 52) - (i * 52 + w) ≡ 52 - w = omega arith in q)
-    ∙ ap (λ (n : ℕ). take (52 - n) (drop (i * 52 + n) tableau)) e
+    ap (λ (n : ℕ). take n (drop (i * room + w) tableau)) (let q : (i * room + 52) - (i * room + w) ≡ 52 - w = omega arith in q)
+    ∙ ap (λ (n : ℕ). take (52 - n) (drop (i * room + n) tableau)) e
 
 -- ---- counts
 

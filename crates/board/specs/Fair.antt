@@ -4,10 +4,10 @@ use mathlib.Core.Bool.{Bool, true, _&&_}
 use Prim.Native.Nat.{ℕ, _<_, _≤_}
 use lib.Dec.{eqb}
 use lib.ListN.{length, getD}
-use Rattle.card.specs.Words.{every, all, occurs}
+use Rattle.base.specs.Words.{every, all, occurs}
 use Rattle.card.specs.Pack.{cardAt}
 use Rattle.board.specs.Table.{Table, cardsOn}
-use Rattle.board.specs.Judged.{onlyCards}
+use Rattle.board.specs.Verdict.{onlyCards}
 use Rattle.board.specs.Record.{atMost}
 
 -- four cells, four foundations, eight columns

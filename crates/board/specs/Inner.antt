@@ -4,12 +4,12 @@ use mathlib.Core.Bool.{Bool, true, false}
 use mathlib.Core.List.{List, _++_}
 use Prim.Native.Nat.{ℕ, _+_, _*_, _^_, _/_, _%_, _<_, _≤_}
 use lib.ListN.{length, getD, take, drop}
-use Rattle.card.specs.Words.{occurs}
+use Rattle.base.specs.Words.{occurs}
 use Rattle.card.specs.Card.{isCard}
 use Rattle.card.specs.Pack.{cardAt}
 use Rattle.board.specs.Table.{cardsOn}
-use Rattle.board.specs.Judged.{isCell, noneTwice}
-use Rattle.board.specs.Record.{room, atMost, shown}
+use Rattle.board.specs.Verdict.{isCell, noneTwice}
+use Rattle.board.specs.Record.{room, atMost, shown, tableauRoom}
 use Rattle.board.specs.declared.Board.{Board}
 use Rattle.board.specs.declared.Kind.{Kind}
 use Rattle.board.specs.declared.Kind.the-variants.{Card, Cell, AtMost}
@@ -28,7 +28,7 @@ pub record GoodPiles (foundation : List ℕ) : Type 0 where
 
 pub record GoodColumns (counts tableau : List ℕ) : Type 0 where
   pub eight : length counts ≡ 8
-  pub full : length tableau ≡ 8 * room
+  pub full : length tableau ≡ tableauRoom
   pub within : (i : ℕ) → i < 8 → getD counts i 0 ≤ room
   pub codes : (i j : ℕ) → i < 8 → j < getD counts i 0 → isCard (getD tableau (i * room + j) 0) ≡ true
   pub spare : (i j : ℕ) → i < 8 → getD counts i 0 ≤ j → j < room → getD tableau (i * room + j) 0 ≡ 0
@@ -45,7 +45,7 @@ pub record Sized (b : Board) : Type 0 where
   pub four : length (b .cells) ≡ 4
   pub piles : length (b .foundation) ≡ 4
   pub eight : length (b .counts) ≡ 8
-  pub full : length (b .tableau) ≡ 8 * room
+  pub full : length (b .tableau) ≡ tableauRoom
 
 -- ---- what a loop asks of each byte
 

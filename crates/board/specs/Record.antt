@@ -4,15 +4,23 @@ use mathlib.Core.List.{List, []}
 use Prim.Native.Nat.{ℕ, _+_, _-_, _*_, _/_, _%_}
 use lib.ListN.{length, getD, take, drop}
 use lib.Dec.{leb}
-use Rattle.card.specs.Words.{every, all, listed}
-use Rattle.card.specs.Answer.{unless}
+use Rattle.base.specs.Words.{every, all, listed}
+use Rattle.base.specs.Answer.{unless}
 use Rattle.board.specs.Table.{Table}
-use Rattle.board.specs.Judged.{Verdict, judged}
+use Rattle.board.specs.Verdict.{Verdict, verdictOn}
 use Rattle.board.specs.declared.Board.{Board}
 
 -- the room that a record has for each column
 abbrev pub room : ℕ
 room = 52
+
+-- and for all eight
+abbrev pub tableauRoom : ℕ
+tableauRoom = 8 * room
+
+-- a record of these four parts
+abbrev pub laid : List ℕ → List ℕ → List ℕ → List ℕ → Board
+laid cells foundation counts tableau = record { cells = cells; foundation = foundation; counts = counts; tableau = tableau }
 
 -- a count of at most n
 abbrev pub atMost : ℕ → ℕ → Bool
@@ -40,7 +48,7 @@ shapely b =
 
 -- the first of 12, 13, 14, 15 that holds, or fine
 unfoldable pub examined : Board → Verdict
-examined b = unless (shapely b) 12 (judged (shown b))
+examined b = unless (shapely b) 12 (verdictOn (shown b))
 
 -- the record of a table: place p of the flat array is row p mod room of column p div room, and 0 where that column has no such row
 unfoldable pub boardOf : Table → Board
@@ -49,5 +57,5 @@ boardOf t =
       cells = t .cells;
       foundation = t .foundation;
       counts = listed 8 (λ i. length (getD (t .columns) i []));
-      tableau = listed (8 * room) (λ p. getD (getD (t .columns) (p / room) []) (p % room) 0);
+      tableau = listed tableauRoom (λ p. getD (getD (t .columns) (p / room) []) (p % room) 0);
     }

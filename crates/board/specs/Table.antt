@@ -4,7 +4,7 @@ use mathlib.Core.List.{List, [], _∷_, _++_}
 use Prim.Native.Nat.{ℕ, _+_, _*_}
 use lib.ListN.{getD}
 use lib.Dec.{eqb}
-use Rattle.card.specs.Words.{listed, concat}
+use Rattle.base.specs.Words.{listed, concat}
 
 -- A cell holds a card's code, or 255 (FF) when it is empty. A foundation pile is counted, by suit, ace upward.
 -- A column is the list of its codes, the deepest first.

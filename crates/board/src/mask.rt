@@ -4,10 +4,10 @@ ghost use mathlib.Core.Path.{_≡_};
 ghost use mathlib.Core.Bool.{true};
 ghost use mathlib.Core.List.{_∷_, []};
 ghost use Prim.Native.Nat.{_<_, _≤_, _^_};
-ghost use Rattle.card.specs.Words.{all, concat, listed};
+ghost use Rattle.base.specs.Words.{all, concat, listed};
 ghost use Rattle.card.specs.Card.{isCard};
 ghost use Rattle.board.specs.Table.{pile, piles, held};
-ghost use Rattle.board.specs.Judged.{isCell};
+ghost use Rattle.board.specs.Verdict.{isCell};
 ghost use Rattle.board.specs.Inner.{Marks, GoodCells, GoodPiles, Parts, partAt};
 use crate::Seen;
 
@@ -131,7 +131,7 @@ pub fn mark_columns<'a>(
     let mut i = 0;
     while i < 8 {
         let start = starts[i];
-        let end = start + card::wide(counts[i]);
+        let end = start + base::wide(counts[i]);
         let Seen::Cards(more) = mark_all(cards, &codes[start..end]) else {
             return Seen::Twice;
         };

@@ -8,9 +8,9 @@ use lib.ListN.{length, length-append}
 use Rattle.board.specs.Table.{Table}
 use Rattle.moves.specs.declared.Move.{Move}
 use Rattle.generate.specs.Found.{found}
-use Rattle.generate.specs.Asked.{Adds}
+use Rattle.moves.specs.Written.{Adds}
 use Rattle.generate.specs.declared.Way.the-variants.{ColumnToColumn, ColumnToHome, ColumnToCell, CellToColumn, CellToHome, HomeToColumn}
-use Rattle.generate.proofs.Writing.{adds-long, adds-more, adds-same}
+use Rattle.moves.proofs.Writing.{adds-long, adds-more, adds-same}
 use Rattle.generate.proofs.Sizes.{most-found}
 use Rattle.safe.specs.Safe.{chosen, isSafe, homeMoves}
 use Rattle.candidates.specs.Candidates.{worthwhile, lateMoves, tried}

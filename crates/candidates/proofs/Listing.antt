@@ -7,8 +7,8 @@ use native.Mathlib.Nat.{not-suc-le-zero}
 use native.Mathlib.Omega.{arith}
 use lib.ListN.{length, take, drop}
 use lib.Seq.{take-at, drop-append-add}
-use Rattle.card.specs.Words.{listed}
-use Rattle.card.proofs.Words.{listed-same}
+use Rattle.base.specs.Words.{listed}
+use Rattle.base.proofs.Words.{listed-same}
 use Rattle.board.specs.Record.{shown}
 use Rattle.board.specs.Inner.{Sound}
 use Rattle.board.specs.declared.Board.{Board}
@@ -18,8 +18,8 @@ use Rattle.moves.proofs.Saying.{move-of-record, possible-said}
 use Rattle.play.specs.Change.{Ready}
 use Rattle.replay.proofs.Lining.{listed-first}
 use Rattle.generate.specs.Found.{gather}
-use Rattle.generate.specs.Asked.{bytesOf, written, Adds}
-use Rattle.generate.proofs.Writing.{record-long, adds-long}
+use Rattle.moves.specs.Written.{bytesOf, written, Adds}
+use Rattle.moves.proofs.Writing.{record-long, adds-long}
 use Rattle.safe.specs.Safe.{chosen}
 use Rattle.candidates.specs.Inner.{AllPlayable, recordAt, moveAt, movesIn, Holds}
 

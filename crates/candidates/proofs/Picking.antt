@@ -5,8 +5,8 @@ use mathlib.Core.List.{List, [], _∷_, _++_}
 use Prim.Native.Nat.{ℕ, zero, suc, _+_, _*_, _≤_}
 use native.Mathlib.Omega.{arith}
 use lib.ListN.{length}
-use Rattle.card.specs.Words.{listed}
-use Rattle.card.specs.Answer.{given, refused}
+use Rattle.base.specs.Words.{listed}
+use Rattle.base.specs.Answer.{given, refused}
 use Rattle.board.specs.declared.Board.{Board}
 use Rattle.moves.specs.Record.{possible, moveOf, moveAsked, moveTold}
 use Rattle.moves.specs.declared.Move.{Move}
@@ -15,8 +15,8 @@ use Rattle.moves.specs.declared.Decoded.{Decoded}
 use Rattle.moves.specs.declared.Decoded.the-variants.{Is, Impossible}
 use Rattle.play.specs.Change.{Ready}
 use Rattle.generate.specs.Found.{gather}
-use Rattle.generate.specs.Asked.{Adds}
-use Rattle.generate.proofs.Writing.{adds-none, adds-same}
+use Rattle.moves.specs.Written.{Adds}
+use Rattle.moves.proofs.Writing.{adds-none, adds-same}
 use Rattle.safe.specs.Safe.{chosen}
 use Rattle.safe.proofs.Choosing.{chosen-one, chosen-append}
 use Rattle.candidates.specs.Inner.{moveAt, movesIn}

@@ -2,7 +2,7 @@
 -- `adds-once`; the others promise `r ≡ d`).
 use mathlib.Core.Path.{_≡_}
 use Prim.Native.Nat.{ℕ}
-use Rattle.card.proofs.Unique.{once}
+use Rattle.base.proofs.Unique.{once}
 use Rattle.board.specs.declared.Board.{Board}
 use Rattle.moves.specs.declared.Move.{Move}
 use Rattle.candidates.specs.Inner.{Bears}

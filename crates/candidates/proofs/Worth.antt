@@ -20,8 +20,8 @@ use Rattle.moves.specs.Play.{afterMove}
 use Rattle.moves.specs.declared.Move.{Move}
 use Rattle.moves.proofs.Records.{said-value}
 use Rattle.play.specs.Change.{Ready}
-use Rattle.generate.specs.Asked.{Adds}
-use Rattle.generate.proofs.Writing.{adds-same}
+use Rattle.moves.specs.Written.{Adds}
+use Rattle.moves.proofs.Writing.{adds-same}
 use Rattle.score.specs.Weights.{ENDGAME_UNSAFE_FOUNDATION_THRESHOLD}
 use Rattle.score.specs.Features.{featuresOf}
 use Rattle.score.specs.declared.Features.{Features}

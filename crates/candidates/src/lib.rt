@@ -2,16 +2,20 @@
 // `expand_moves`, changed: NOTICE).
 ghost use Prim.Native.Nat.{_≤_};
 ghost use lib.ListN.{length};
-ghost use Rattle.board.specs.Record.{shown};
+ghost use Rattle.board.specs.Record.{shown, laid};
 ghost use Rattle.board.specs.Inner.{Sound};
 ghost use Rattle.play.specs.Change.{Ready};
-ghost use Rattle.generate.specs.Asked.{Adds, Finds};
+ghost use Rattle.moves.specs.Written.{Adds};
+ghost use Rattle.generate.specs.Asked.{Finds, recordRoom};
 ghost use Rattle.candidates.specs.Candidates.{candidates};
 ghost use Rattle.candidates.specs.Inner.{Bears};
 use board::Board;
+use board::CODES;
 use board::Examined;
 use board::Refusal;
-use board::judge::inspect;
+use board::verdict::inspect;
+use generate::MOST_RECORDS;
+use generate::RECORD_ROOM;
 use moves::Move;
 use questions::CountAnswer;
 
@@ -34,12 +38,12 @@ pub struct Child {
 // The candidates of a well formed board, in order.
 pub fn candidates_at(b: Board, out: &mut [u8]) -> usize
     requires { ⌜ Sound b ⌝ }
-    requires { ⌜ 4180 ≤ length (now out) ⌝ }
+    requires { ⌜ recordRoom ≤ length (now out) ⌝ }
     ensures { λ r. ⌜ Adds (now (out .entry)) (now (out .exit)) 0 r (candidates (shown b)) ⌝ }
 {
     let before = score::measure::compute_features(&b.cells, &b.foundation, &b.counts, &b.tableau);
-    let mut list = [0u8; 4180];
-    let mut keys = [0u64; 836];
+    let mut list = [0u8; RECORD_ROOM];
+    let mut keys = [0u64; MOST_RECORDS];
     let n = list::tried_at(b, before, &mut list);
     ranks::rank_all(b, before, &list, n, &mut keys);
     ranks::emit(&list, &keys, n, out)
@@ -51,11 +55,11 @@ pub fn child_to(
     cells: &mut [u8; 4],
     foundation: &mut [u8; 4],
     counts: &mut [u8; 8],
-    tableau: &mut [u8; 416],
+    tableau: &mut [u8; CODES],
 ) -> usize
-    requires { ⌜ Ready (record { cells = now cells; foundation = now foundation; counts = now counts; tableau = now tableau }) m ⌝ }
-    ensures { λ r. ⌜ Bears (record { cells = now (cells .entry); foundation = now (foundation .entry); counts = now (counts .entry); tableau = now (tableau .entry) }) m r (record { cells = now (cells .exit); foundation = now (foundation .exit); counts = now (counts .exit); tableau = now (tableau .exit) }) ⌝ }
-    ensures { λ r. ⌜ Sound (record { cells = now (cells .exit); foundation = now (foundation .exit); counts = now (counts .exit); tableau = now (tableau .exit) }) ⌝ }
+    requires { ⌜ Ready (laid (now cells) (now foundation) (now counts) (now tableau)) m ⌝ }
+    ensures { λ r. ⌜ Bears (laid (now (cells .entry)) (now (foundation .entry)) (now (counts .entry)) (now (tableau .entry))) m r (laid (now (cells .exit)) (now (foundation .exit)) (now (counts .exit)) (now (tableau .exit))) ⌝ }
+    ensures { λ r. ⌜ Sound (laid (now (cells .exit)) (now (foundation .exit)) (now (counts .exit)) (now (tableau .exit))) ⌝ }
 {
     play::apply_to(m, cells, foundation, counts, tableau);
     let after = safe::chain_to(cells, foundation, counts, tableau);
@@ -90,8 +94,8 @@ pub fn candidates_of(b: Board, out: &mut [u8]) -> CountAnswer
     if let Examined::Refused(why) = inspect(&b.cells, &b.foundation, &b.counts, &b.tableau) {
         return CountAnswer::Refused(why);
     }
-    if out.len() < 4180 {
-        return CountAnswer::Refused(Refusal::NoRoom);
+    if out.len() < RECORD_ROOM {
+        return CountAnswer::Refused(Refusal::LittleRoom);
     }
     CountAnswer::Count(candidates_at(b, out))
 }

@@ -10,12 +10,13 @@ ghost use Rattle.moves.specs.Move.{card};
 ghost use Rattle.moves.specs.Record.{possible, moveOf};
 ghost use Rattle.play.specs.Change.{Ready};
 ghost use Rattle.generate.specs.Found.{found};
-ghost use Rattle.generate.specs.Asked.{Adds};
+ghost use Rattle.moves.specs.Written.{Adds};
 ghost use Rattle.generate.specs.declared.Way.the-variants.{ColumnToColumn, ColumnToCell, CellToColumn, HomeToColumn};
 ghost use Rattle.score.specs.Features.{featuresOf};
 ghost use Rattle.safe.specs.Safe.{chosen, isSafe, homeMoves};
 ghost use Rattle.candidates.specs.Candidates.{better, worthwhile, lateMoves, tried};
 ghost use Rattle.candidates.specs.Inner.{meets, movesIn, Holds};
+ghost use Rattle.generate.specs.Asked.{recordRoom};
 use crate::Test;
 use board::Board;
 use card::Card;
@@ -86,7 +87,7 @@ fn keep(test: Test, b: Board, before: Features, bytes: &[u8], out: &mut [u8], n:
         return n;
     };
     if meets_test(test, b, before, m) {
-        return generate::write(out, n, m);
+        return moves::write(out, n, m);
     }
     n
 }
@@ -223,7 +224,7 @@ fn late_moves_at(
 pub fn tried_at(b: Board, before: Features, out: &mut [u8]) -> usize
     requires { ⌜ Sound b ⌝ }
     requires { ⌜ before ≡ featuresOf (shown b) ⌝ }
-    requires { ⌜ 4180 ≤ length (now out) ⌝ }
+    requires { ⌜ recordRoom ≤ length (now out) ⌝ }
     ensures { λ r. ⌜ Adds (now (out .entry)) (now (out .exit)) 0 r (tried (shown b)) ⌝ }
 {
     let mut homes = [0u8; 60];

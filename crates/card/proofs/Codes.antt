@@ -11,7 +11,7 @@ use Rattle.card.specs.declared.Card.{Card}
 use Rattle.card.specs.Suit.{suitNumber, suitAt}
 use Rattle.card.specs.Card.{isValue, isCard, codeOf, cardOf}
 use Rattle.card.specs.Pack.{cardAt, placeOf}
-use Rattle.card.proofs.Words.{both, first, second}
+use Rattle.base.proofs.Words.{both, first, second}
 
 -- ---- suits
 

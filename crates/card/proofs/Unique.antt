@@ -1,8 +1,8 @@
--- Every promise allows one result only. Where a promise is `r ≡ d` that is `once`; where it tells a result by its meaning, no two
--- results mean the same.
-use mathlib.Core.Path.{_≡_, refl, sym, ap, _∙_}
+-- The answers of this crate allow one result only.
+use mathlib.Core.Path.{_≡_, refl, _∙_}
 use Prim.Native.Nat.{ℕ}
-use Rattle.card.specs.Answer.{Answer, given, refused}
+use Rattle.base.specs.Answer.{Answer, given, refused}
+use Rattle.base.proofs.Unique.{told-once}
 use Rattle.card.specs.Suit.{suitTold, suitAsked}
 use Rattle.card.specs.Card.{cardTold, cardAsked, codeTold, codeAsked}
 use Rattle.card.specs.declared.Suit.{Suit}
@@ -13,16 +13,6 @@ use Rattle.card.specs.declared.Coded.{Coded}
 use Rattle.card.specs.declared.Coded.the-variants as coded
 use Rattle.card.specs.declared.Decoded.{Decoded}
 use Rattle.card.specs.declared.Decoded.the-variants as decoded
-
--- two results that are both d are one
-pub once : {A : Type 0} {r s d : A} → r ≡ d → s ≡ d → r ≡ s
-once p q = p ∙ sym q
-
--- two results whose meanings are both m are one, where the meaning gives the result back
-pub told-once : {A B : Type 0} (told : A → B) (back : B → A) → ((a : A) → back (told a) ≡ a) → {r s : A} {m : B} → told r ≡ m → told s ≡ m → r ≡ s
-told-once told back law {r} {s} p q = sym (law r) ∙ ap back (p ∙ sym q) ∙ law s
-
--- ---- this crate's answers
 
 suit-back : Answer Suit → FoundSuit
 suit-back (given s) = found.Is s

@@ -2,7 +2,7 @@
 use mathlib.Core.Bool.{Bool, _&&_}
 use Prim.Native.Nat.{ℕ, _+_, _*_, _/_, _%_}
 use lib.Dec.{ltb, leb}
-use Rattle.card.specs.Answer.{Answer, given, refused, unless}
+use Rattle.base.specs.Answer.{Answer, given, refused, unless}
 use Rattle.card.specs.Suit.{suitNumber, suitAt}
 use Rattle.card.specs.declared.Card.{Card}
 use Rattle.card.specs.declared.Coded.{Coded}

@@ -1,6 +1,4 @@
 -- Read these in this order.
-pub mod Words
-pub mod Answer
 pub mod Suit
 pub mod Card
 pub mod Pack

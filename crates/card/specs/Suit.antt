@@ -1,7 +1,7 @@
 -- The four suits, their numbers 0 to 3, and their colours.
 use Prim.Native.Nat.{ℕ, zero, suc}
 use lib.Dec.{ltb}
-use Rattle.card.specs.Answer.{Answer, given, refused, unless}
+use Rattle.base.specs.Answer.{Answer, given, refused, unless}
 use Rattle.card.specs.declared.Suit.{Suit}
 use Rattle.card.specs.declared.Suit.the-variants.{Club, Diamond, Heart, Spade}
 use Rattle.card.specs.declared.Color.{Color}

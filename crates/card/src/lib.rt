@@ -86,13 +86,6 @@ pub fn suit_at(v: u8) -> Suit
     }
 }
 
-// A byte as an index.
-pub fn wide(x: u8) -> usize
-    ensures { λ r. ⌜ r ≡ x ⌝ }
-{
-    x as usize
-}
-
 // Whether a byte is some card's code.
 pub fn is_card(code: u8) -> bool
     ensures { λ r. ⌜ r ≡ isCard code ⌝ }

@@ -8,8 +8,8 @@ use native.Mathlib.Decide.{ℕ-discrete}
 use borrow.Author.Tests.{eq-eqb, ne-eqb}
 use lib.Dec.{eqb}
 use lib.ListN.{length, getD, set}
-use Rattle.card.specs.Words.{sum}
-use Rattle.card.proofs.Sums.{sum-same, sum-add, sum-zero, sum-one, sum-ones, sum-all}
+use Rattle.base.specs.Words.{sum}
+use Rattle.base.proofs.Sums.{sum-same, sum-add, sum-zero, sum-one, sum-ones, sum-all}
 use Rattle.costs.specs.declared.Slot.{Slot}
 use Rattle.costs.specs.declared.Slot.the-variants.{Full}
 use Rattle.costs.specs.Entries.{isUsed, used}

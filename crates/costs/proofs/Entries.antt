@@ -9,7 +9,7 @@ use borrow.Author.Tests.{eq-eqb, eqb-true, ltb-true, lt-ltb, le-ltb}
 use lib.Dec.{eqb, ltb}
 use lib.ListN.{length, getD, set}
 use lib.Seq.{getD-set-same, getD-set-other}
-use Rattle.card.proofs.Words.{first, second, first-fails}
+use Rattle.base.proofs.Words.{first, second, first-fails}
 use Rattle.costs.specs.Entries.{isUsed, costAt, holds}
 
 module _ (costs : List ℕ) (i : ℕ) where

@@ -5,7 +5,7 @@ use mathlib.Core.List.{List}
 use Prim.Native.Nat.{ℕ, _-_, _<_, _≤_}
 use native.Mathlib.Omega.{arith}
 use native.Mathlib.Decide.{decLe, decLt}
-use Rattle.card.proofs.Words.{not-so, true-or-not}
+use Rattle.base.proofs.Words.{not-so, true-or-not}
 use Rattle.costs.specs.declared.Slot.{Slot}
 use Rattle.costs.specs.declared.Slot.the-variants.{At, Free, Full}
 use Rattle.costs.specs.Entries.{isUsed, holds}

@@ -6,7 +6,7 @@ use Prim.Native.Nat.{ℕ, zero, suc, _<_}
 use native.Mathlib.Nat.{not-suc-le-zero}
 use native.Mathlib.Omega.{arith}
 use native.Mathlib.Decide.{ℕ-discrete}
-use Rattle.card.proofs.Words.{not-so}
+use Rattle.base.proofs.Words.{not-so}
 use Rattle.costs.specs.Entries.{costAt, holds}
 use Rattle.costs.specs.CostIn.{unknown, known, orElse, costIn}
 

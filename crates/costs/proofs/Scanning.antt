@@ -6,7 +6,7 @@ use Prim.Native.Nat.{ℕ, _+_, _<_, _≤_}
 use native.Mathlib.Omega.{arith}
 use native.Mathlib.Decide.{decLt}
 use lib.ListN.{getD}
-use Rattle.card.proofs.Words.{true-or-not}
+use Rattle.base.proofs.Words.{true-or-not}
 use Rattle.costs.specs.Entries.{isUsed, holds}
 use Rattle.costs.specs.declared.Slot.the-variants.{At, Free}
 use Rattle.costs.specs.Promises.{Passed, Scans, slotAt}

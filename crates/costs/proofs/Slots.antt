@@ -6,7 +6,7 @@ use Prim.Native.Nat.{ℕ, _+_, _<_, _≤_}
 use native.Mathlib.Omega.{arith}
 use native.Mathlib.Decide.{ℕ-discrete}
 use lib.ListN.{length, getD, set}
-use Rattle.card.proofs.Words.{true-or-not}
+use Rattle.base.proofs.Words.{true-or-not}
 use Rattle.costs.specs.Entries.{holds, costAt}
 use Rattle.costs.specs.CostIn.{unknown, known, costIn}
 use Rattle.costs.specs.Table.{Table}

@@ -7,7 +7,7 @@ use native.Mathlib.Omega.{arith}
 use native.Mathlib.Decide.{ℕ-discrete}
 use lib.ListN.{length, getD, set, length-set}
 use lib.Seq.{getD-set-same, getD-set-other}
-use Rattle.card.proofs.Words.{not-so}
+use Rattle.base.proofs.Words.{not-so}
 use Rattle.costs.specs.Entries.{isUsed, holds}
 use Rattle.costs.specs.CostIn.{known}
 use Rattle.costs.specs.Table.{Reached, Table}

@@ -4,8 +4,8 @@ use mathlib.Core.List.{List}
 use Prim.Native.Nat.{ℕ, _<_}
 use native.Mathlib.Omega.{arith}
 use native.Mathlib.Decide.{decLt}
-use Rattle.card.proofs.Words.{true-or-not}
-use Rattle.card.proofs.Unique.{once}
+use Rattle.base.proofs.Words.{true-or-not}
+use Rattle.base.proofs.Unique.{once}
 use Rattle.costs.specs.declared.Slot.{Slot}
 use Rattle.costs.specs.declared.Slot.the-variants.{At, Free, Full}
 use Rattle.costs.specs.Entries.{isUsed, holds}

@@ -4,7 +4,7 @@ use mathlib.Core.List.{List}
 use Prim.Native.Nat.{ℕ, _-_}
 use lib.Dec.{eqb, ltb}
 use lib.ListN.{getD}
-use Rattle.card.specs.Words.{sum}
+use Rattle.base.specs.Words.{sum}
 
 -- entry i is used
 unfoldable pub isUsed : List ℕ → ℕ → Bool

@@ -8,17 +8,17 @@ use borrow.Author.Tests.{eq-eqb, eqb-true}
 use lib.Dec.{eqb, leb}
 use lib.ListN.{length, take, drop, length-drop}
 use lib.Seq.{length-take-le}
-use Rattle.card.specs.Answer.{Answer, given, refused, unless}
-use Rattle.card.specs.Words.{all}
-use Rattle.card.proofs.Words.{first, second, true-or-not}
-use Rattle.card.proofs.Answers.{given-by}
-use Rattle.board.specs.Judged.{Verdict, fine, after}
-use Rattle.board.specs.Record.{examined}
+use Rattle.base.specs.Answer.{Answer, given, refused, unless}
+use Rattle.base.specs.Words.{all}
+use Rattle.base.proofs.Words.{first, second, true-or-not}
+use Rattle.base.proofs.Answers.{given-by}
+use Rattle.board.specs.Verdict.{Verdict, fine, after}
+use Rattle.board.specs.Record.{examined, tableauRoom}
 use Rattle.board.specs.Inner.{Sized}
 use Rattle.board.specs.declared.Board.{Board}
 use Rattle.board.proofs.Fair.{accepted-fair, fair-accepted}
-use Rattle.cabinet.specs.Wire.{boardRoom, boardIn}
-use Rattle.cabinet.specs.Crossing.{Left, left, crossed, asked, within}
+use Rattle.corbelnib.specs.Wire.{boardRoom, boardIn}
+use Rattle.corbelnib.specs.Crossing.{Left, left, crossed, asked, within}
 use Rattle.demands.specs.Calls.{Entry, Call, promise, GoodBoard}
 use Rattle.demands.specs.Demand1.{isIn, hands, refusals, Examined}
 use Rattle.demands.proofs.Refusing.{Refuses, by-room}
@@ -81,7 +81,7 @@ room-keeps {ns = ns} differ room lent a f short r g =
 pub sized-in : (bytes : List ℕ) → length bytes ≡ 432 → Sized (boardIn bytes)
 unfolding boardIn
 sized-in bytes e =
-    record { four = part 4 0 (omega arith); piles = part 4 4 (omega arith); eight = part 8 8 (omega arith); full = part 416 16 (omega arith) }
+    record { four = part 4 0 (omega arith); piles = part 4 4 (omega arith); eight = part 8 8 (omega arith); full = part tableauRoom 16 (omega arith) }
   where
     part : (n at : ℕ) → at + n ≤ 432 → length (take n (drop at bytes)) ≡ n
     part n at h = length-take-le n (drop at bytes) (let d = length-drop at bytes in omega arith)

@@ -8,12 +8,12 @@ use borrow.Author.Tests.{eqb-true}
 use lib.Dec.{eqb}
 use lib.IntN.{ℤ}
 use lib.ListN.{length, getD}
-use Rattle.card.specs.Answer.{Answer, given, refused, unless}
-use Rattle.card.specs.Words.{all}
-use Rattle.card.proofs.Words.{true-or-not}
-use Rattle.card.proofs.Answers.{given-by}
+use Rattle.base.specs.Answer.{Answer, given, refused, unless}
+use Rattle.base.specs.Words.{all}
+use Rattle.base.proofs.Words.{true-or-not}
+use Rattle.base.proofs.Answers.{given-by}
 use Rattle.board.specs.Table.{Table}
-use Rattle.board.specs.Judged.{Verdict, after}
+use Rattle.board.specs.Verdict.{Verdict, after}
 use Rattle.board.specs.Record.{examined, shown}
 use Rattle.board.specs.declared.Board.{Board}
 use Rattle.intake.specs.Image.{imageRead}
@@ -34,12 +34,12 @@ use Rattle.priority.specs.Asked.{priorityBy, priorityAsked}
 use Rattle.candidates.specs.Candidates.{candidates as tried}
 use Rattle.solver.specs.Told as solver
 use Rattle.solver.proofs.Calls.{answer-clears, T1-none}
-use Rattle.cabinet.specs.Wire.{boardRoom, boardIn}
-use Rattle.cabinet.specs.Crossing.{left, told, asked}
-use Rattle.cabinet.specs.Boards.{boardLeft, readLeft, dealLeft, moveLeft, lineLeft, replayLeft, chained, chainLeft}
-use Rattle.cabinet.specs.Lists.{listLeft, candidatesLeft, wayAsked, foundBy, movesLeft, textLeft, tokenLeft}
-use Rattle.cabinet.specs.Values.{featureRoom, signatureLeft, priorityLeft, scoresLeft, numbersLeft, featuresLeft}
-use Rattle.cabinet.specs.Judged.{isAnswer}
+use Rattle.corbelnib.specs.Wire.{boardRoom, boardIn}
+use Rattle.corbelnib.specs.Crossing.{left, told, asked}
+use Rattle.corbelnib.specs.Boards.{boardLeft, readLeft, dealLeft, moveLeft, lineLeft, replayLeft, chained, chainLeft}
+use Rattle.corbelnib.specs.Lists.{listLeft, candidatesLeft, wayAsked, foundBy, movesLeft, textLeft, tokenLeft}
+use Rattle.corbelnib.specs.Values.{featureRoom, signatureLeft, priorityLeft, scoresLeft, numbersLeft, featuresLeft}
+use Rattle.corbelnib.specs.Judged.{isAnswer}
 use Rattle.demands.specs.Calls.{Entry, examine, read, deal, move, replay, chain, moves, candidates, token, priority, scores, signature, features, capacity, judge}
 use Rattle.demands.specs.Calls.{boundary, Call, promise}
 use Rattle.demands.specs.Demand1.{isIn, hands, refusals, placeOf, Examined, Cleared, Demand1}

@@ -7,10 +7,10 @@ use native.Mathlib.Omega.{arith}
 use borrow.Author.Tests.{lt-ltb}
 use lib.IntN.{ℤ}
 use lib.ListN.{length, getD}
-use Rattle.card.specs.Answer.{Answer, given}
-use Rattle.card.specs.Words.{all, listed}
+use Rattle.base.specs.Answer.{Answer, given}
+use Rattle.base.specs.Words.{all, listed}
 use Rattle.card.specs.Card.{isCard}
-use Rattle.card.proofs.Words.{listed-same, all-by, all-at}
+use Rattle.base.proofs.Words.{listed-same, all-by, all-at}
 use Rattle.card.proofs.Codes.{card-is}
 use Rattle.board.specs.Table.{Table}
 use Rattle.board.specs.Record.{shown}
@@ -19,7 +19,8 @@ use Rattle.moves.specs.declared.Move.{Move}
 use Rattle.moves.specs.Move.{column}
 use Rattle.moves.proofs.Fairness.{fair-cards}
 use Rattle.generate.specs.Found.{found}
-use Rattle.generate.specs.Asked.{written, recordRoom}
+use Rattle.moves.specs.Written.{written}
+use Rattle.generate.specs.Asked.{recordRoom}
 use Rattle.generate.specs.declared.Way.{Way}
 use Rattle.signature.specs.Fnv.{fnv}
 use Rattle.signature.specs.Signed.{signatureOf, signatureAsked, columnHashes}
@@ -29,10 +30,10 @@ use Rattle.score.specs.Asked.{featuresAsked}
 use Rattle.score.specs.declared.Features.{Features}
 use Rattle.candidates.specs.Candidates.{candidates as tried}
 use Rattle.solver.proofs.Calls.{answered-accepted, gives}
-use Rattle.cabinet.specs.Crossing.{Left, left, crossed}
-use Rattle.cabinet.specs.Lists.{listLeft, candidatesLeft, wayAsked, foundBy, movesLeft}
-use Rattle.cabinet.specs.Values.{valueLeft, signatureLeft, scoresLeft}
-use Rattle.cabinet.proofs.Crossing.{some-room}
+use Rattle.corbelnib.specs.Crossing.{Left, left, crossed}
+use Rattle.corbelnib.specs.Lists.{listLeft, candidatesLeft, wayAsked, foundBy, movesLeft}
+use Rattle.corbelnib.specs.Values.{valueLeft, signatureLeft, scoresLeft}
+use Rattle.corbelnib.proofs.Crossing.{some-room}
 use Rattle.demands.specs.Calls.{moves, candidates, scores, signature, judge, Call, GoodBoard}
 use Rattle.demands.specs.Demand1.{GoodSearch}
 use Rattle.demands.specs.Fnv1a.{fnv1a, isOctet}

@@ -10,10 +10,10 @@ use lib.Dec.{eqb, leb}
 use lib.IntN.{ℤ}
 use lib.ListN.{length}
 use lib.Signed.{leZ}
-use Rattle.card.proofs.Words.{not-so}
+use Rattle.base.proofs.Words.{not-so}
 use Rattle.board.specs.Table.{Table}
 use Rattle.moves.specs.declared.Move.{Move}
-use Rattle.generate.specs.Asked.{bytesOf}
+use Rattle.moves.specs.Written.{bytesOf}
 use Rattle.score.specs.Features.{featuresOf}
 use Rattle.score.specs.Scores.{progress}
 use Rattle.search.specs.Freecell.{freecell, judge as search-of}
@@ -24,8 +24,8 @@ use Rattle.solver.specs.Searched.{movesOf}
 use Rattle.solver.proofs.Calls.{answered-accepted}
 use Rattle.solver.proofs.Calls as calls
 use Rattle.solver.proofs.Masters as masters
-use Rattle.cabinet.specs.Wire.{boardIn}
-use Rattle.cabinet.specs.Judged.{flag, isAnswer}
+use Rattle.corbelnib.specs.Wire.{boardIn}
+use Rattle.corbelnib.specs.Judged.{flag, isAnswer}
 use Rattle.demands.specs.Calls.{judge, Call, GoodBoard, capacityIn}
 use Rattle.demands.specs.Demand2.{tableIn, answerTo, handed}
 use Rattle.demands.specs.Demand3.{isWon, isExhausted, isBestProgress, Accepted, SameBoard, SameList, SameAnswer, NoLess, SameSettings, FinalScore, scoreOf, Demand3}

@@ -9,8 +9,8 @@ use borrow.Author.Tests.{ltb-true}
 use lib.Bits.{bitXor}
 use lib.Dec.{lit<}
 use lib.Pow.{pow-pos}
-use Rattle.card.specs.Words.{all}
-use Rattle.card.proofs.Words.{first, second}
+use Rattle.base.specs.Words.{all}
+use Rattle.base.proofs.Words.{first, second}
 use Rattle.signature.specs.Fnv.{prime, offset, fnvStep, fnvFrom, fnv}
 use Rattle.signature.proofs.Digits.{xor-digits}
 use Rattle.demands.specs.Fnv1a.{FNV-prime, hashed, fnv1a, isOctet}

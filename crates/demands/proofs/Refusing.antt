@@ -5,14 +5,14 @@ use mathlib.Core.List.{List, [], _∷_}
 use Prim.Native.Nat.{ℕ, zero, suc}
 use lib.Dec.{eqb, leb}
 use lib.ListN.{length, take, drop}
-use Rattle.card.specs.Answer.{Answer, given, refused, unless}
-use Rattle.card.specs.Words.{all}
+use Rattle.base.specs.Answer.{Answer, given, refused, unless}
+use Rattle.base.specs.Words.{all}
 use Rattle.card.specs.Card.{isCard}
 use Rattle.board.specs.Table.{Table, cardsOn}
-use Rattle.board.specs.Judged.{Verdict, fine, after, onlyCards, noneTwice, noneMissing, judged}
+use Rattle.board.specs.Verdict.{Verdict, fine, after, onlyCards, noneTwice, noneMissing, verdictOn}
 use Rattle.board.specs.Record.{atMost, shapely, examined, shown, boardOf}
 use Rattle.board.specs.declared.Board.{Board}
-use Rattle.intake.specs.Image.{framed, versioned, joining, columnsIn, judgedWith, bodied, imageRead}
+use Rattle.intake.specs.Image.{framed, versioned, joining, columnsIn, verdictWith, bodied, imageRead}
 use Rattle.intake.specs.Deal.{dealt, dealAsked}
 use Rattle.moves.specs.Record.{possible, moveOf, moveAsked}
 use Rattle.moves.specs.Play.{allowed, afterMove, played}
@@ -22,8 +22,8 @@ use Rattle.replay.specs.Step.{recorded, playedOn, stepped}
 use Rattle.priority.specs.Priority.{priorityOn}
 use Rattle.priority.specs.Asked.{priorityBy}
 use Rattle.solver.specs.Searched.{accepted}
-use Rattle.cabinet.specs.Wire.{boardRoom, boardIn}
-use Rattle.cabinet.specs.Crossing.{asked, within}
+use Rattle.corbelnib.specs.Wire.{boardRoom, boardIn}
+use Rattle.corbelnib.specs.Crossing.{asked, within}
 use Rattle.demands.specs.Demand1.{isIn}
 
 module _ (ns : List ℕ) where
@@ -48,8 +48,8 @@ module _ (ns : List ℕ) where
   -- ---- boards
 
   module _ (twelve : isIn 12 ns ≡ true) (thirteen : isIn 13 ns ≡ true) (fourteen : isIn 14 ns ≡ true) (fifteen : isIn 15 ns ≡ true) where
-    judged-refuses : (t : Table) → Refuses (judged t)
-    unfolding judged
+    judged-refuses : (t : Table) → Refuses (verdictOn t)
+    unfolding verdictOn
     judged-refuses t =
         by-test (onlyCards t) 13 _ thirteen
         (by-test (noneTwice (cardsOn t)) 14 _ fourteen (by-test (noneMissing (cardsOn t)) 15 fine fifteen tt))
@@ -81,10 +81,10 @@ module _ (ns : List ℕ) where
         joined (given columns) r = tt
         joined (refused k) r = r
 
-    table-refuses : (cells foundation : List ℕ) (a : Answer (List (List ℕ))) → Refuses a → Refuses (judgedWith cells foundation a)
-    unfolding judgedWith
+    table-refuses : (cells foundation : List ℕ) (a : Answer (List (List ℕ))) → Refuses a → Refuses (verdictWith cells foundation a)
+    unfolding verdictWith
     table-refuses cells foundation (refused n) r = r
-    table-refuses cells foundation (given columns) r = by-verdict (judged _) _ (judged-refuses _) tt
+    table-refuses cells foundation (given columns) r = by-verdict (verdictOn _) _ (judged-refuses _) tt
 
     pub image-refuses : isIn 10 ns ≡ true → isIn 11 ns ≡ true → (image : List ℕ) → Refuses (imageRead image)
     unfolding imageRead bodied

@@ -8,9 +8,9 @@ use borrow.Author.Tests.{le-leb, leb-true}
 use lib.Dec.{eqb, leb}
 use lib.ListN.{length, take, drop}
 use lib.Seq.{take-at, drop-at}
-use Rattle.card.specs.Answer.{Answer, given, unless}
+use Rattle.base.specs.Answer.{Answer, given, unless}
 use Rattle.board.specs.Table.{Table}
-use Rattle.board.specs.Judged.{fine}
+use Rattle.board.specs.Verdict.{fine}
 use Rattle.board.specs.Record.{shapely, shown, boardOf}
 use Rattle.board.specs.Fair.{Fair}
 use Rattle.board.specs.Inner.{Sound}
@@ -26,18 +26,18 @@ use Rattle.replay.specs.Played.{afterMoves, recordsOf}
 use Rattle.replay.proofs.Lining.{records-none, records-first}
 use Rattle.replay.proofs.Replaying.{a-line}
 use Rattle.replay.proofs.Legal.{legal-fair}
-use Rattle.generate.specs.Asked.{bytesOf}
-use Rattle.generate.proofs.Writing.{record-long, bytes-long}
-use Rattle.score.specs.Asked.{over}
+use Rattle.moves.specs.Written.{bytesOf}
+use Rattle.moves.proofs.Writing.{record-long, bytes-long}
+use Rattle.base.specs.Put.{over}
 use Rattle.solver.specs.Told.{HandsOver}
 use Rattle.solver.proofs.Calls as calls
-use Rattle.cabinet.specs.Wire.{boardRoom, boardIn}
-use Rattle.cabinet.specs.Wire as wire
-use Rattle.cabinet.specs.Crossing.{Left, left}
-use Rattle.cabinet.specs.Boards.{lineLeft, replayLeft}
-use Rattle.cabinet.specs.Judged.{isAnswer}
-use Rattle.cabinet.proofs.Handing.{line-yes}
-use Rattle.cabinet.proofs.Returning as returning
+use Rattle.corbelnib.specs.Wire.{boardRoom, boardIn}
+use Rattle.corbelnib.specs.Wire as wire
+use Rattle.corbelnib.specs.Crossing.{Left, left}
+use Rattle.corbelnib.specs.Boards.{lineLeft, replayLeft}
+use Rattle.corbelnib.specs.Judged.{isAnswer}
+use Rattle.corbelnib.proofs.Handing.{line-yes}
+use Rattle.corbelnib.proofs.Returning as returning
 use Rattle.demands.specs.Calls.{replay, judge, Call, GoodBoard}
 use Rattle.demands.specs.Demand2.{Replays, tableIn, bringsList, handed, endOf}
 use Rattle.demands.proofs.Crossing.{good-asked}

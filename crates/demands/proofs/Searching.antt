@@ -7,9 +7,9 @@ use Prim.Native.Nat.{ℕ, _≤_}
 use borrow.Author.Tests.{leb-true, eq-eqb, eqb-true}
 use lib.Dec.{eqb, leb}
 use lib.ListN.{length}
-use Rattle.card.specs.Answer.{given, refused}
-use Rattle.card.specs.Words.{all}
-use Rattle.board.specs.Judged.{Verdict, fine}
+use Rattle.base.specs.Answer.{given, refused}
+use Rattle.base.specs.Words.{all}
+use Rattle.board.specs.Verdict.{Verdict, fine}
 use Rattle.board.specs.Record.{shown}
 use Rattle.board.specs.Inner.{Sized}
 use Rattle.board.specs.declared.Examined.the-variants as board
@@ -17,10 +17,10 @@ use Rattle.solver.specs.Searched.{Outcome, refusedWith, accepted, searchedBy, a
 use Rattle.solver.specs.Told as solver
 use Rattle.solver.proofs.Accepting.{all-fine}
 use Rattle.solver.proofs.Calls.{asks, judge-answer}
-use Rattle.cabinet.specs.Wire.{boardIn}
-use Rattle.cabinet.specs.Crossing.{Left, left}
-use Rattle.cabinet.specs.Judged.{flag, isAnswer, leaves, pointed, judgeLeft}
-use Rattle.cabinet.proofs.Calls.{is-answer, call-of, call-number}
+use Rattle.corbelnib.specs.Wire.{boardIn}
+use Rattle.corbelnib.specs.Crossing.{Left, left}
+use Rattle.corbelnib.specs.Judged.{flag, isAnswer, leaves, pointed, judgeLeft}
+use Rattle.corbelnib.proofs.Calls.{is-answer, call-of, call-number}
 use Rattle.demands.specs.Calls.{Lent, searchLeft, judge, Call, promise, capacityIn}
 use Rattle.demands.specs.Demand1.{isIn, refusals, GoodSearch}
 use Rattle.demands.proofs.Refusing.{Refuses, search-refuses}

@@ -9,12 +9,12 @@ use Rattle.board.specs.Record.{shown, shapely, examined}
 use Rattle.board.specs.Fair.{Fair}
 use Rattle.solver.specs.Capacity.{capacityOf}
 use Rattle.solver.specs.Searched.{Outcome}
-use Rattle.cabinet.specs.Wire.{boardRoom, boardIn}
-use Rattle.cabinet.specs.Crossing.{Left, left, told, asked}
-use Rattle.cabinet.specs.Boards.{readLeft, dealLeft, moveLeft, replayLeft, chainLeft}
-use Rattle.cabinet.specs.Lists.{movesLeft, candidatesLeft, tokenLeft}
-use Rattle.cabinet.specs.Values.{priorityLeft, scoresLeft, signatureLeft, featuresLeft}
-use Rattle.cabinet.specs.Judged.{judgeLeft}
+use Rattle.corbelnib.specs.Wire.{boardRoom, boardIn}
+use Rattle.corbelnib.specs.Crossing.{Left, left, told, asked}
+use Rattle.corbelnib.specs.Boards.{readLeft, dealLeft, moveLeft, replayLeft, chainLeft}
+use Rattle.corbelnib.specs.Lists.{movesLeft, candidatesLeft, tokenLeft}
+use Rattle.corbelnib.specs.Values.{priorityLeft, scoresLeft, signatureLeft, featuresLeft}
+use Rattle.corbelnib.specs.Judged.{judgeLeft}
 
 -- the functions that C can call: corbelnib_examine, corbelnib_read, ..
 pub data Entry : Type 0 where
@@ -93,7 +93,7 @@ Places features = List ℕ
 Places capacity = Unit {0}
 Places judge = Lent
 
--- ---- what each function promises in crates/cabinet/src/lib.rt: its number and every lent place, from what went in and what lay there
+-- ---- what each function promises in crates/corbelnib/src/lib.rt: its number and every lent place, from what went in and what lay there
 
 abbrev pub searchLeft : Outcome → Left Lent
 searchLeft o =

@@ -1,20 +1,22 @@
 -- Demand 1, sentence by sentence: "Nothing traps, nothing runs on."
 -- That every call comes back, without a trap, and keeps its promise, is what is proved of the code: no function of
--- crates/cabinet/src/lib.rt asks anything of its caller (`requires`), and each is proved to end. What the promises say is here.
+-- crates/corbelnib/src/lib.rt asks anything of its caller (`requires`), and each is proved to end. What the promises say is here.
 use mathlib.Core.Path.{_≡_}
 use mathlib.Core.Bool.{Bool, true, false, _||_}
 use mathlib.Core.List.{List, [], _∷_, _++_}
 use Prim.Native.Nat.{ℕ, _≤_}
 use lib.Dec.{eqb}
 use lib.ListN.{length, getD}
-use Rattle.card.specs.Answer.{given}
+use Rattle.base.specs.Answer.{given}
 use Rattle.board.specs.declared.Board.{Board}
 use Rattle.intake.specs.Image.{imageRead}
 use Rattle.intake.specs.Deal.{dealAsked}
-use Rattle.blank.specs.Blank.{blank}
-use Rattle.cabinet.specs.Judged.{isAnswer}
+use Rattle.base.specs.Blank.{blank}
+use Rattle.corbelnib.specs.Judged.{isAnswer}
 use Rattle.demands.specs.Calls.{Entry, examine, read, deal, move, replay, chain, moves, candidates, token, priority, scores, signature, features, capacity, judge}
 use Rattle.demands.specs.Calls.{boundary, Call, GoodBoard, capacityIn}
+use Rattle.moves.specs.Written.{listRoom}
+use Rattle.solver.specs.Searched.{mostPops}
 
 -- ---- SCOPE.md's numbers
 
@@ -76,8 +78,8 @@ pub record IsDeck (bytes : List ℕ) : Type 0 where
 -- a search: a well-formed board, a budget of at most 1,000,000, a list buffer of 1,000 bytes, room for the root
 pub record GoodSearch (c : Call judge) : Type 0 where
   pub board : GoodBoard (c .input .board)
-  pub budget : c .input .budget ≤ 1000000
-  pub list : 1000 ≤ length (c .before .list)
+  pub budget : c .input .budget ≤ mostPops
+  pub list : listRoom ≤ length (c .before .list)
   pub root : 1 ≤ capacityIn (c .before)
 
 abbrev pub Examined : (e : Entry) → Call e → Type 0

@@ -9,15 +9,16 @@ use mathlib.Core.List.{List, []}
 use Prim.Native.Nat.{ℕ, _*_, _≤_}
 use lib.Dec.{leb}
 use lib.ListN.{length, getD, take}
-use Rattle.card.specs.Answer.{given}
-use Rattle.card.specs.Words.{all, listed}
+use Rattle.base.specs.Answer.{given}
+use Rattle.base.specs.Words.{all, listed}
 use Rattle.board.specs.Table.{Table}
 use Rattle.board.specs.Record.{shown}
 use Rattle.board.specs.Fair.{Fair}
 use Rattle.questions.specs.Questions.{wonOn}
 use Rattle.moves.specs.declared.Move.{Move}
 use Rattle.generate.specs.Found.{found}
-use Rattle.generate.specs.Asked.{written, recordRoom}
+use Rattle.moves.specs.Written.{written}
+use Rattle.generate.specs.Asked.{recordRoom}
 use Rattle.generate.specs.declared.Way.{Way}
 use Rattle.signature.specs.Fnv.{fnv}
 use Rattle.signature.specs.Signed.{signatureOf, columnHashes}
@@ -27,9 +28,9 @@ use Rattle.candidates.specs.Candidates.{candidates as tried}
 use Rattle.search.specs.Solve.{Answer}
 use Rattle.search.specs.Freecell.{freecell, judge as search-of}
 use Rattle.solver.specs.Searched.{movesOf}
-use Rattle.cabinet.specs.Wire.{boardRoom, boardIn}
-use Rattle.cabinet.specs.Lists.{wayAsked}
-use Rattle.cabinet.specs.Judged.{flag}
+use Rattle.corbelnib.specs.Wire.{boardRoom, boardIn}
+use Rattle.corbelnib.specs.Lists.{wayAsked}
+use Rattle.corbelnib.specs.Judged.{flag}
 use Rattle.demands.specs.Calls.{replay, moves, candidates, scores, signature, judge, Call, GoodBoard, capacityIn}
 use Rattle.demands.specs.Demand1.{GoodSearch}
 use Rattle.demands.specs.Fnv1a.{fnv1a, isOctet}

@@ -8,9 +8,11 @@ use lib.Dec.{eqb}
 use lib.IntN.{ℤ}
 use lib.ListN.{length}
 use lib.Signed.{leZ}
-use Rattle.cabinet.specs.Judged.{flag, isAnswer}
+use Rattle.corbelnib.specs.Judged.{flag, isAnswer}
 use Rattle.demands.specs.Calls.{replay, scores, judge, Call, capacityIn}
 use Rattle.demands.specs.Demand2.{handed, Replays, endOf}
+use Rattle.moves.specs.Written.{listRoom}
+use Rattle.solver.specs.Searched.{mostPops}
 
 -- ---- what an answer is called
 
@@ -78,7 +80,7 @@ pub record Demand3 : Type 0 where
   -- "more budget and room keep won and exhausted as they were, ..": the number, the count and the list, for every call that is accepted;
   -- it is, if its budget is at most 1,000,000 and its list buffer has 1,000 bytes
   pub stays : (x y : Call judge) → NoLess x y → Accepted y → (isWon (x .number) || isExhausted (x .number)) ≡ true → SameAnswer x y
-  pub accepted : (x y : Call judge) → NoLess x y → Accepted x → y .input .budget ≤ 1000000 → 1000 ≤ length (y .before .list) → Accepted y
+  pub accepted : (x y : Call judge) → NoLess x y → Accepted x → y .input .budget ≤ mostPops → listRoom ≤ length (y .before .list) → Accepted y
   -- ".. and never lower a best-progress score"
   pub score : (x y : Call judge) → NoLess x y → isBestProgress (x .number) ≡ true → isBestProgress (y .number) ≡ true
       → (s : FinalScore x) (t : FinalScore y) → leZ (scoreOf s) (scoreOf t) ≡ true

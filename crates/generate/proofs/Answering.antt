@@ -7,7 +7,7 @@ use borrow.Author.Tests.{le-leb, lt-leb}
 use types.Run.{OneOf}
 use denote.Enum.Declared.{tagOf}
 use lib.ListN.{length}
-use Rattle.card.specs.Answer.{Answer, given, refused}
+use Rattle.base.specs.Answer.{Answer, given, refused}
 use Rattle.board.specs.Table.{Table}
 use Rattle.board.specs.Record.{examined}
 use Rattle.board.specs.Refusal.{numberOf, examinedTold}
@@ -20,7 +20,8 @@ use Rattle.questions.specs.declared.CountAnswer.the-variants.{Count, Refused}
 use Rattle.questions.proofs.Asking.{after-no, after-yes}
 use Rattle.play.proofs.Single.{no-run}
 use Rattle.generate.specs.Found.{foundFrom}
-use Rattle.generate.specs.Asked.{recordRoom, foundAsked, roomAfter, Finds, Adds}
+use Rattle.moves.specs.Written.{Adds}
+use Rattle.generate.specs.Asked.{recordRoom, foundAsked, roomAfter, Finds}
 use Rattle.generate.specs.declared.Way.{Way}
 use Rattle.generate.specs.declared.Way.the-variants.{ColumnToColumn}
 use Rattle.generate.proofs.Way.{the-type}

@@ -7,19 +7,19 @@ use native.Mathlib.Numerals.{add-one}
 use native.Mathlib.Omega.{arith}
 use borrow.Author.Tests.{eq-eqb, leb-true}
 use lib.ListN.{length, getD}
-use Rattle.card.specs.Words.{all, listed}
+use Rattle.base.specs.Words.{all, listed}
 use Rattle.card.specs.Card.{isCard, cardOf}
 use Rattle.card.specs.declared.Card.{Card}
-use Rattle.card.proofs.Words.{not-so}
+use Rattle.base.proofs.Words.{not-so}
 use Rattle.card.proofs.Codes.{code-card, value-of-card}
 use Rattle.board.specs.Table.{Table}
-use Rattle.board.specs.Record.{columnAt, shown}
+use Rattle.board.specs.Record.{columnAt, shown, room}
 use Rattle.board.specs.Inner.{Sound}
 use Rattle.board.specs.declared.Board.{Board}
 use Rattle.board.proofs.Soundness.{column-length}
 use Rattle.questions.proofs.Asking.{shown-column}
 use Rattle.rules.specs.Fit.{fitsOn}
-use Rattle.rules.specs.Run.{runLength}
+use Rattle.runs.specs.Run.{runLength}
 use Rattle.rules.specs.Limit.{mostMoved}
 use Rattle.rules.proofs.Laying.{run-top, run-at-most, run-13}
 use Rattle.moves.specs.Move.{column, sayable}
@@ -106,7 +106,7 @@ module _ {b : Board} {i j k : ℕ} (o : Reaches b i j k) where
 
   module _ {w : ℕ} (e : w ≡ getD (b .counts) i 0) where
     abbrev code : ℕ
-    code = getD (b .tableau) (i * 52 + (w - (k + 1))) 0
+    code = getD (b .tableau) (i * room + (w - (k + 1))) 0
 
     pub run-there : k + 1 ≤ w
     run-there = let l = run-short in omega arith

@@ -11,7 +11,7 @@ use Rattle.card.specs.Suit.{suitNumber}
 use Rattle.card.specs.Card.{isCard, cardOf}
 use Rattle.card.specs.declared.Suit.{Suit}
 use Rattle.card.specs.declared.Card.{Card}
-use Rattle.card.proofs.Words.{all-at}
+use Rattle.base.proofs.Words.{all-at}
 use Rattle.card.proofs.Codes.{suit-below, suit-at-number, card-code, value-of-card}
 use Rattle.board.specs.Table.{Table}
 use Rattle.board.specs.Fair.{Fair}

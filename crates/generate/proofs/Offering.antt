@@ -6,11 +6,11 @@ use Prim.Native.Nat.{ℕ, suc, _-_, _<_, _≤_}
 use native.Mathlib.Omega.{arith}
 use borrow.Author.Tests.{lt-ltb, le-leb, eq-eqb}
 use lib.ListN.{length, getD}
-use Rattle.card.specs.Words.{all}
+use Rattle.base.specs.Words.{all}
 use Rattle.card.specs.Suit.{suitNumber, suitAt}
 use Rattle.card.specs.Card.{isCard, isValue, cardOf, codeOf}
 use Rattle.card.specs.declared.Card.{Card}
-use Rattle.card.proofs.Words.{both, all-at}
+use Rattle.base.proofs.Words.{both, all-at}
 use Rattle.card.proofs.Codes.{suit-below, number-suit-at, code-card, value-of-card}
 use Rattle.board.specs.Table.{Table}
 use Rattle.board.specs.Record.{shown}

@@ -7,11 +7,11 @@ use native.Mathlib.Omega.{arith}
 use borrow.Author.Tests.{lt-ltb}
 use lib.Dec.{eqb}
 use lib.ListN.{getD}
-use Rattle.card.specs.Words.{all, listed}
+use Rattle.base.specs.Words.{all, listed}
 use Rattle.card.specs.Suit.{suitAt}
 use Rattle.card.specs.Card.{isCard, cardOf}
 use Rattle.card.specs.declared.Suit.{Suit}
-use Rattle.card.proofs.Words.{length-listed, getD-listed}
+use Rattle.base.proofs.Words.{length-listed, getD-listed}
 use Rattle.board.specs.Table.{pile, held}
 use Rattle.board.specs.Record.{columnAt, shown}
 use Rattle.board.specs.Inner.{Sound}

@@ -2,12 +2,13 @@
 use mathlib.Core.Path.{_≡_}
 use mathlib.Core.List.{List}
 use Prim.Native.Nat.{ℕ}
-use Rattle.card.proofs.Unique.{once}
+use Rattle.base.proofs.Unique.{once}
 use Rattle.board.specs.declared.Board.{Board}
 use Rattle.questions.specs.declared.CountAnswer.{CountAnswer}
 use Rattle.questions.proofs.Unique.{count-once}
 use Rattle.moves.specs.declared.Move.{Move}
-use Rattle.generate.specs.Asked.{Finds, Adds}
+use Rattle.moves.specs.Written.{Adds}
+use Rattle.generate.specs.Asked.{Finds}
 
 -- of `find` and the six entry points
 pub find-once : {b : Board} {ms : List Move} {old new new′ : List ℕ} {r r′ : CountAnswer} → Finds b ms old new r → Finds b ms old new′ r′ → (new ≡ new′) × (r ≡ r′)

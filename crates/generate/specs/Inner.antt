@@ -1,14 +1,14 @@
 -- What the inner functions ask before they offer a move.
 use mathlib.Core.Path.{_≡_}
 use Prim.Native.Nat.{ℕ, _<_}
-use Rattle.card.specs.Words.{listed}
+use Rattle.base.specs.Words.{listed}
 use Rattle.card.specs.declared.Card.{Card}
 use Rattle.board.specs.Record.{columnAt, shown}
 use Rattle.board.specs.Inner.{Sound}
 use Rattle.board.specs.declared.Board.{Board}
 use Rattle.questions.specs.Questions.{topOf}
 use Rattle.questions.specs.declared.Top.the-variants.{Is}
-use Rattle.rules.specs.Run.{runLength}
+use Rattle.runs.specs.Run.{runLength}
 use Rattle.rules.specs.Limit.{mostMoved}
 use Rattle.moves.specs.Play.{there}
 use Rattle.generate.specs.Found.{sourceCount, targetCount, source}

@@ -5,26 +5,34 @@ ghost use mathlib.Core.List.{_∷_, []};
 ghost use Prim.Native.Nat.{suc, min, _+_, _*_, _<_, _≤_};
 ghost use lib.ListN.{length, getD};
 ghost use Rattle.card.specs.Card.{isValue, codeOf};
-ghost use Rattle.board.specs.Record.{shown, columnAt};
+ghost use Rattle.board.specs.Record.{shown, columnAt, laid};
 ghost use Rattle.board.specs.Table.{pile};
 ghost use Rattle.board.specs.Inner.{GoodPiles, Sound};
 ghost use Rattle.questions.specs.Questions.{topOf};
 ghost use Rattle.questions.specs.declared.Top.the-variants.{Is};
-ghost use Rattle.rules.specs.Run.{runLength};
+ghost use Rattle.runs.specs.Run.{runLength};
 ghost use Rattle.moves.specs.Move.{to, sayable};
 ghost use Rattle.moves.specs.Play.{there, takes};
 ghost use Rattle.generate.specs.Found.{sourceCount, targetCount, source, moveFrom, offered, ifAllowed, foundBetween, foundFrom, found};
-ghost use Rattle.generate.specs.Asked.{Adds, Finds};
+ghost use Rattle.moves.specs.Written.{Adds};
+ghost use Rattle.generate.specs.Asked.{Finds};
 ghost use Rattle.generate.specs.Inner.{Offers, Reaches};
 ghost use Rattle.generate.specs.declared.Way.the-variants.{ColumnToColumn, ColumnToHome, ColumnToCell, CellToColumn, CellToHome, HomeToColumn};
 use board::Board;
+use board::CODES;
 use board::Examined;
+use board::ROOM;
 use board::Refusal;
-use board::judge::inspect;
+use board::verdict::inspect;
 use card::Card;
 use moves::Move;
 use questions::CountAnswer;
 use questions::Top;
+
+// The most moves of a board, and the room for their records.
+pub const MOST_RECORDS: usize = 836;
+
+pub const RECORD_ROOM: usize = 5 * MOST_RECORDS;
 
 // The six kinds of move.
 pub enum Way {
@@ -124,12 +132,12 @@ fn card_at<'a>(
     cells: &'a [u8; 4],
     foundation: &'a [u8; 4],
     counts: &'a [u8; 8],
-    tableau: &'a [u8; 416],
+    tableau: &'a [u8; CODES],
     i: usize,
 ) -> Top
-    requires { ⌜ Sound (record { cells = now cells; foundation = now foundation; counts = now counts; tableau = now tableau }) ⌝ }
+    requires { ⌜ Sound (laid (now cells) (now foundation) (now counts) (now tableau)) ⌝ }
     requires { ⌜ i < sourceCount way ⌝ }
-    ensures { λ r. ⌜ r ≡ topOf (there (shown (record { cells = now (cells .entry); foundation = now (foundation .entry); counts = now (counts .entry); tableau = now (tableau .entry) })) (source way i)) ⌝ }
+    ensures { λ r. ⌜ r ≡ topOf (there (shown (laid (now (cells .entry)) (now (foundation .entry)) (now (counts .entry)) (now (tableau .entry)))) (source way i)) ⌝ }
 {
     match way {
         Way::ColumnToColumn => questions::top_at(counts, tableau, i),
@@ -147,15 +155,15 @@ fn takes_at<'a>(
     cells: &'a [u8; 4],
     foundation: &'a [u8; 4],
     counts: &'a [u8; 8],
-    tableau: &'a [u8; 416],
+    tableau: &'a [u8; CODES],
     i: usize,
     j: usize,
     card: Card,
 ) -> bool
-    requires { ⌜ Sound (record { cells = now cells; foundation = now foundation; counts = now counts; tableau = now tableau }) ⌝ }
+    requires { ⌜ Sound (laid (now cells) (now foundation) (now counts) (now tableau)) ⌝ }
     requires { ⌜ j < targetCount way ⌝ }
     requires { ⌜ isValue (card .value) ≡ true ⌝ }
-    ensures { λ r. ⌜ r ≡ takes (shown (record { cells = now (cells .entry); foundation = now (foundation .entry); counts = now (counts .entry); tableau = now (tableau .entry) })) (to (moveFrom way i j 1 card)) (codeOf card) ⌝ }
+    ensures { λ r. ⌜ r ≡ takes (shown (laid (now (cells .entry)) (now (foundation .entry)) (now (counts .entry)) (now (tableau .entry)))) (to (moveFrom way i j 1 card)) (codeOf card) ⌝ }
 {
     let code = card::code_of(card);
     match way {
@@ -168,41 +176,25 @@ fn takes_at<'a>(
     }
 }
 
-// One record more.
-pub fn write(out: &mut [u8], n: usize, m: Move) -> usize
-    requires { ⌜ sayable m ≡ true ⌝ }
-    requires { ⌜ (n + 1) * 5 ≤ length (now out) ⌝ }
-    ensures { λ r. ⌜ Adds (now (out .entry)) (now (out .exit)) n r (m ∷ []) ⌝ }
-{
-    let bytes = moves::encode(m);
-    let at = n * 5;
-    out[at] = bytes[0];
-    out[at + 1] = bytes[1];
-    out[at + 2] = bytes[2];
-    out[at + 3] = bytes[3];
-    out[at + 4] = bytes[4];
-    n + 1
-}
-
 // The move of one card between two places, if it is allowed; the card is the last at its place.
 fn offer<'a>(
     way: Way,
     cells: &'a [u8; 4],
     foundation: &'a [u8; 4],
     counts: &'a [u8; 8],
-    tableau: &'a [u8; 416],
+    tableau: &'a [u8; CODES],
     i: usize,
     j: usize,
     card: Card,
     out: &mut [u8],
     n: usize,
 ) -> usize
-    requires { ⌜ Offers (record { cells = now cells; foundation = now foundation; counts = now counts; tableau = now tableau }) way i j card ⌝ }
-    requires { ⌜ (n + length (foundBetween (shown (record { cells = now cells; foundation = now foundation; counts = now counts; tableau = now tableau })) way i j)) * 5 ≤ length (now out) ⌝ }
-    ensures { λ r. ⌜ Adds (now (out .entry)) (now (out .exit)) n r (foundBetween (shown (record { cells = now (cells .entry); foundation = now (foundation .entry); counts = now (counts .entry); tableau = now (tableau .entry) })) way i j) ⌝ }
+    requires { ⌜ Offers (laid (now cells) (now foundation) (now counts) (now tableau)) way i j card ⌝ }
+    requires { ⌜ (n + length (foundBetween (shown (laid (now cells) (now foundation) (now counts) (now tableau))) way i j)) * 5 ≤ length (now out) ⌝ }
+    ensures { λ r. ⌜ Adds (now (out .entry)) (now (out .exit)) n r (foundBetween (shown (laid (now (cells .entry)) (now (foundation .entry)) (now (counts .entry)) (now (tableau .entry)))) way i j) ⌝ }
 {
     if takes_at(way, cells, foundation, counts, tableau, i, j, card) {
-        return write(out, n, move_from(way, i, j, card));
+        return moves::write(out, n, move_from(way, i, j, card));
     }
     n
 }
@@ -213,16 +205,16 @@ fn from_place<'a>(
     cells: &'a [u8; 4],
     foundation: &'a [u8; 4],
     counts: &'a [u8; 8],
-    tableau: &'a [u8; 416],
+    tableau: &'a [u8; CODES],
     i: usize,
     out: &mut [u8],
     n: usize,
 ) -> usize
-    requires { ⌜ Sound (record { cells = now cells; foundation = now foundation; counts = now counts; tableau = now tableau }) ⌝ }
+    requires { ⌜ Sound (laid (now cells) (now foundation) (now counts) (now tableau)) ⌝ }
     requires { ⌜ (way ≡ ColumnToColumn → ⊥) ⌝ }
     requires { ⌜ i < sourceCount way ⌝ }
-    requires { ⌜ (n + length (foundFrom (shown (record { cells = now cells; foundation = now foundation; counts = now counts; tableau = now tableau })) way i)) * 5 ≤ length (now out) ⌝ }
-    ensures { λ r. ⌜ Adds (now (out .entry)) (now (out .exit)) n r (foundFrom (shown (record { cells = now (cells .entry); foundation = now (foundation .entry); counts = now (counts .entry); tableau = now (tableau .entry) })) way i) ⌝ }
+    requires { ⌜ (n + length (foundFrom (shown (laid (now cells) (now foundation) (now counts) (now tableau))) way i)) * 5 ≤ length (now out) ⌝ }
+    ensures { λ r. ⌜ Adds (now (out .entry)) (now (out .exit)) n r (foundFrom (shown (laid (now (cells .entry)) (now (foundation .entry)) (now (counts .entry)) (now (tableau .entry)))) way i) ⌝ }
 {
     let Top::Is(card) = card_at(way, cells, foundation, counts, tableau, i) else {
         return n;
@@ -253,20 +245,20 @@ fn offer_run<'a>(
     cells: &'a [u8; 4],
     foundation: &'a [u8; 4],
     counts: &'a [u8; 8],
-    tableau: &'a [u8; 416],
+    tableau: &'a [u8; CODES],
     i: usize,
     j: usize,
     k: usize,
     out: &mut [u8],
     n: usize,
 ) -> usize
-    requires { ⌜ Reaches (record { cells = now cells; foundation = now foundation; counts = now counts; tableau = now tableau }) i j k ⌝ }
-    requires { ⌜ (n + length (ifAllowed (shown (record { cells = now cells; foundation = now foundation; counts = now counts; tableau = now tableau })) (offered (shown (record { cells = now cells; foundation = now foundation; counts = now counts; tableau = now tableau })) ColumnToColumn i j (suc k)))) * 5 ≤ length (now out) ⌝ }
-    ensures { λ r. ⌜ Adds (now (out .entry)) (now (out .exit)) n r (ifAllowed (shown (record { cells = now (cells .entry); foundation = now (foundation .entry); counts = now (counts .entry); tableau = now (tableau .entry) })) (offered (shown (record { cells = now (cells .entry); foundation = now (foundation .entry); counts = now (counts .entry); tableau = now (tableau .entry) })) ColumnToColumn i j (suc k))) ⌝ }
+    requires { ⌜ Reaches (laid (now cells) (now foundation) (now counts) (now tableau)) i j k ⌝ }
+    requires { ⌜ (n + length (ifAllowed (shown (laid (now cells) (now foundation) (now counts) (now tableau))) (offered (shown (laid (now cells) (now foundation) (now counts) (now tableau))) ColumnToColumn i j (suc k)))) * 5 ≤ length (now out) ⌝ }
+    ensures { λ r. ⌜ Adds (now (out .entry)) (now (out .exit)) n r (ifAllowed (shown (laid (now (cells .entry)) (now (foundation .entry)) (now (counts .entry)) (now (tableau .entry)))) (offered (shown (laid (now (cells .entry)) (now (foundation .entry)) (now (counts .entry)) (now (tableau .entry)))) ColumnToColumn i j (suc k))) ⌝ }
 {
-    let first = i * 52;
+    let first = i * ROOM;
     let above = k + 1;
-    let lie = card::wide(counts[i]);
+    let lie = base::wide(counts[i]);
     let deepest = first + (lie - above);
     let code = tableau[deepest];
     if rules::fit_at(counts, tableau, j, code) {
@@ -277,7 +269,7 @@ fn offer_run<'a>(
             count: above,
             card,
         };
-        return write(out, n, m);
+        return moves::write(out, n, m);
     }
     n
 }
@@ -297,19 +289,19 @@ fn runs_between<'a>(
     cells: &'a [u8; 4],
     foundation: &'a [u8; 4],
     counts: &'a [u8; 8],
-    tableau: &'a [u8; 416],
+    tableau: &'a [u8; CODES],
     i: usize,
     run: usize,
     j: usize,
     out: &mut [u8],
     n: usize,
 ) -> usize
-    requires { ⌜ Sound (record { cells = now cells; foundation = now foundation; counts = now counts; tableau = now tableau }) ⌝ }
+    requires { ⌜ Sound (laid (now cells) (now foundation) (now counts) (now tableau)) ⌝ }
     requires { ⌜ i < 8 ⌝ }
     requires { ⌜ j < 8 ⌝ }
     requires { ⌜ run ≡ runLength (columnAt (now counts) (now tableau) i) ⌝ }
-    requires { ⌜ (n + length (foundBetween (shown (record { cells = now cells; foundation = now foundation; counts = now counts; tableau = now tableau })) ColumnToColumn i j)) * 5 ≤ length (now out) ⌝ }
-    ensures { λ r. ⌜ Adds (now (out .entry)) (now (out .exit)) n r (foundBetween (shown (record { cells = now (cells .entry); foundation = now (foundation .entry); counts = now (counts .entry); tableau = now (tableau .entry) })) ColumnToColumn i j) ⌝ }
+    requires { ⌜ (n + length (foundBetween (shown (laid (now cells) (now foundation) (now counts) (now tableau))) ColumnToColumn i j)) * 5 ≤ length (now out) ⌝ }
+    ensures { λ r. ⌜ Adds (now (out .entry)) (now (out .exit)) n r (foundBetween (shown (laid (now (cells .entry)) (now (foundation .entry)) (now (counts .entry)) (now (tableau .entry)))) ColumnToColumn i j) ⌝ }
 {
     if i == j {
         return n;
@@ -330,15 +322,15 @@ fn runs_from<'a>(
     cells: &'a [u8; 4],
     foundation: &'a [u8; 4],
     counts: &'a [u8; 8],
-    tableau: &'a [u8; 416],
+    tableau: &'a [u8; CODES],
     i: usize,
     out: &mut [u8],
     n: usize,
 ) -> usize
-    requires { ⌜ Sound (record { cells = now cells; foundation = now foundation; counts = now counts; tableau = now tableau }) ⌝ }
+    requires { ⌜ Sound (laid (now cells) (now foundation) (now counts) (now tableau)) ⌝ }
     requires { ⌜ i < 8 ⌝ }
-    requires { ⌜ (n + length (foundFrom (shown (record { cells = now cells; foundation = now foundation; counts = now counts; tableau = now tableau })) ColumnToColumn i)) * 5 ≤ length (now out) ⌝ }
-    ensures { λ r. ⌜ Adds (now (out .entry)) (now (out .exit)) n r (foundFrom (shown (record { cells = now (cells .entry); foundation = now (foundation .entry); counts = now (counts .entry); tableau = now (tableau .entry) })) ColumnToColumn i) ⌝ }
+    requires { ⌜ (n + length (foundFrom (shown (laid (now cells) (now foundation) (now counts) (now tableau))) ColumnToColumn i)) * 5 ≤ length (now out) ⌝ }
+    ensures { λ r. ⌜ Adds (now (out .entry)) (now (out .exit)) n r (foundFrom (shown (laid (now (cells .entry)) (now (foundation .entry)) (now (counts .entry)) (now (tableau .entry)))) ColumnToColumn i) ⌝ }
 {
     let run = rules::run_at(counts, tableau, i);
     let mut made = n;
@@ -356,15 +348,15 @@ fn find_from<'a>(
     cells: &'a [u8; 4],
     foundation: &'a [u8; 4],
     counts: &'a [u8; 8],
-    tableau: &'a [u8; 416],
+    tableau: &'a [u8; CODES],
     i: usize,
     out: &mut [u8],
     n: usize,
 ) -> usize
-    requires { ⌜ Sound (record { cells = now cells; foundation = now foundation; counts = now counts; tableau = now tableau }) ⌝ }
+    requires { ⌜ Sound (laid (now cells) (now foundation) (now counts) (now tableau)) ⌝ }
     requires { ⌜ i < sourceCount way ⌝ }
-    requires { ⌜ (n + length (foundFrom (shown (record { cells = now cells; foundation = now foundation; counts = now counts; tableau = now tableau })) way i)) * 5 ≤ length (now out) ⌝ }
-    ensures { λ r. ⌜ Adds (now (out .entry)) (now (out .exit)) n r (foundFrom (shown (record { cells = now (cells .entry); foundation = now (foundation .entry); counts = now (counts .entry); tableau = now (tableau .entry) })) way i) ⌝ }
+    requires { ⌜ (n + length (foundFrom (shown (laid (now cells) (now foundation) (now counts) (now tableau))) way i)) * 5 ≤ length (now out) ⌝ }
+    ensures { λ r. ⌜ Adds (now (out .entry)) (now (out .exit)) n r (foundFrom (shown (laid (now (cells .entry)) (now (foundation .entry)) (now (counts .entry)) (now (tableau .entry)))) way i) ⌝ }
 {
     match way {
         Way::ColumnToColumn => runs_from(cells, foundation, counts, tableau, i, out, n),
@@ -378,13 +370,13 @@ pub fn find_at<'a>(
     cells: &'a [u8; 4],
     foundation: &'a [u8; 4],
     counts: &'a [u8; 8],
-    tableau: &'a [u8; 416],
+    tableau: &'a [u8; CODES],
     out: &mut [u8],
     n: usize,
 ) -> usize
-    requires { ⌜ Sound (record { cells = now cells; foundation = now foundation; counts = now counts; tableau = now tableau }) ⌝ }
-    requires { ⌜ (n + length (found (shown (record { cells = now cells; foundation = now foundation; counts = now counts; tableau = now tableau })) way)) * 5 ≤ length (now out) ⌝ }
-    ensures { λ r. ⌜ Adds (now (out .entry)) (now (out .exit)) n r (found (shown (record { cells = now (cells .entry); foundation = now (foundation .entry); counts = now (counts .entry); tableau = now (tableau .entry) })) way) ⌝ }
+    requires { ⌜ Sound (laid (now cells) (now foundation) (now counts) (now tableau)) ⌝ }
+    requires { ⌜ (n + length (found (shown (laid (now cells) (now foundation) (now counts) (now tableau))) way)) * 5 ≤ length (now out) ⌝ }
+    ensures { λ r. ⌜ Adds (now (out .entry)) (now (out .exit)) n r (found (shown (laid (now (cells .entry)) (now (foundation .entry)) (now (counts .entry)) (now (tableau .entry)))) way) ⌝ }
 {
     let last = sources(way);
     let mut made = n;
@@ -403,8 +395,8 @@ pub fn find(b: Board, way: Way, out: &mut [u8]) -> CountAnswer
     if let Examined::Refused(why) = inspect(&b.cells, &b.foundation, &b.counts, &b.tableau) {
         return CountAnswer::Refused(why);
     }
-    if out.len() < 4180 {
-        return CountAnswer::Refused(Refusal::NoRoom);
+    if out.len() < RECORD_ROOM {
+        return CountAnswer::Refused(Refusal::LittleRoom);
     }
     let made = find_at(way, &b.cells, &b.foundation, &b.counts, &b.tableau, out, 0);
     CountAnswer::Count(made)

@@ -7,15 +7,15 @@ use native.Mathlib.Omega.{arith}
 use borrow.Author.Tests.{leb-true, eqb-true}
 use lib.Dec.{leb, eqb}
 use lib.ListN.{length, getD, take, drop, length-take, length-drop}
-use Rattle.card.specs.Words.{all, occurs, listed, concat, sum}
-use Rattle.card.specs.Answer.{Answer, given, refused, unless}
+use Rattle.base.specs.Words.{all, occurs, listed, concat, sum}
+use Rattle.base.specs.Answer.{Answer, given, refused, unless}
 use Rattle.card.specs.Card.{isCard}
 use Rattle.card.specs.Pack.{cardAt}
-use Rattle.card.proofs.Words.{all-at, all-by, all-concat, every-by, length-listed, getD-listed, occurs-listed, occurs-concat}
-use Rattle.card.proofs.Sums.{sum-same}
-use Rattle.card.proofs.Answers.{given-by}
+use Rattle.base.proofs.Words.{all-at, all-by, all-concat, every-by, length-listed, getD-listed, occurs-listed, occurs-concat}
+use Rattle.base.proofs.Sums.{sum-same}
+use Rattle.base.proofs.Answers.{given-by}
 use Rattle.board.specs.Table.{Table}
-use Rattle.board.specs.Judged.{Verdict, fine, after, noneTwice, judged}
+use Rattle.board.specs.Verdict.{Verdict, fine, after, noneTwice, verdictOn}
 use Rattle.board.specs.Record.{atMost, examined, boardOf}
 use Rattle.board.specs.Fair.{Fair}
 use Rattle.board.specs.Inner.{GoodPiles, Sound, Sized}
@@ -25,8 +25,8 @@ use Rattle.board.proofs.Soundness.{sound}
 use Rattle.board.proofs.Counting.{whole-pack}
 use Rattle.board.proofs.Records.{Laid, listed-back, fine-of-record, sized-of-record}
 use Rattle.board.proofs.Fitting.{fits}
-use Rattle.board.proofs.Fair.{bare-fair, fair-judged, fair-laid}
-use Rattle.intake.specs.Image.{joining, columnsIn, judgedWith, framed, versioned, bodied, imageRead}
+use Rattle.board.proofs.Fair.{bare-fair, fair-fine, fair-laid}
+use Rattle.intake.specs.Image.{joining, columnsIn, verdictWith, framed, versioned, bodied, imageRead}
 use Rattle.intake.specs.Deal.{rows, dealtColumn, dealt, dealAsked}
 use Rattle.intake.proofs.Dealing.{row-within, board-dealt}
 
@@ -69,16 +69,16 @@ pub record Fine (b : Board) : Type 0 where
 pub fine-sound : {b : Board} → Fine b → Sound b
 fine-sound {b} f = sound b (f .sized) (f .verdict)
 
-fine-table : (t : Table) → Laid t → judged t ≡ fine → Fine (boardOf t)
+fine-table : (t : Table) → Laid t → verdictOn t ≡ fine → Fine (boardOf t)
 fine-table t l e = record { verdict = fine-of-record t l e; sized = sized-of-record t l }
 
 from-columns : (cells foundation : List ℕ) (a : Answer (List (List ℕ))) {b : Board} → length cells ≡ 4 → GoodPiles foundation → Long 8 a
-    → judgedWith cells foundation a ≡ given b → Fine b
-unfolding judgedWith
+    → verdictWith cells foundation a ≡ given b → Fine b
+unfolding verdictWith
 from-columns cells foundation (refused n) four g l e = let z : _≡_ {A = ℕ} 0 1 = cc in absurd (let w : ⊥ = omega arith in w)
 from-columns cells foundation (given cs) {b} four g l e =
     let t : Table = record { cells = cells; foundation = foundation; columns = cs } in
-    let v = after-given (judged t) (given (boardOf t)) e in
+    let v = after-given (verdictOn t) (given (boardOf t)) e in
     let same : boardOf t ≡ b = (let q = v .1 in cc) in
     subst Fine same (fine-table t (fits t four g l (v .0)) (v .0))
 
@@ -147,7 +147,7 @@ deal-fine deck {b} e =
     let f = dealt-fair deck full (c .0) (w .0) in
     let same : boardOf (dealt deck) ≡ b = (let q = w .1 in cc) in
     subst Fine same
-    (fine-table (dealt deck) (fair-laid (dealt deck) f) (fair-judged f))
+    (fine-table (dealt deck) (fair-laid (dealt deck) f) (fair-fine f))
 
 pub deal-columns : (deck : List ℕ) {b : Board} → dealAsked deck ≡ given b → b .counts ≡ 7 ∷ 7 ∷ 7 ∷ 7 ∷ 6 ∷ 6 ∷ 6 ∷ 6 ∷ []
 unfolding dealAsked

@@ -7,12 +7,12 @@ use native.Mathlib.Omega.{arith}
 use native.Mathlib.Decide.{decLt}
 use borrow.Author.Tests.{lt-ltb, le-ltb, eq-eqb, ne-eqb}
 use lib.ListN.{length, getD, replicate, List·getD-eq-default}
-use Rattle.card.specs.Words.{all, listed}
-use Rattle.card.specs.Answer.{given, refused}
+use Rattle.base.specs.Words.{all, listed}
+use Rattle.base.specs.Answer.{given, refused}
 use Rattle.card.specs.Card.{isCard}
-use Rattle.card.proofs.Words.{listed-same, length-listed, getD-listed}
-use Rattle.board.specs.Judged.{noneTwice}
-use Rattle.board.specs.Record.{room, boardOf}
+use Rattle.base.proofs.Words.{listed-same, length-listed, getD-listed}
+use Rattle.board.specs.Verdict.{noneTwice}
+use Rattle.board.specs.Record.{room, boardOf, laid, tableauRoom}
 use Rattle.board.proofs.Records.{record-of-columns}
 use Rattle.intake.specs.Deal.{rows, dealtColumn, dealt, dealAsked}
 use Rattle.intake.specs.Inside.{deckCode}
@@ -72,11 +72,11 @@ module _ (deck : List ℕ) (full : length deck ≡ 52) where
           ∙ sym (List·getD-eq-default deck 0 (let p = row-past i r h (omega arith) in omega arith))
 
   pub board-dealt : boardOf (dealt deck)
-      ≡ record { cells = replicate 4 255; foundation = replicate 4 0; counts = 7 ∷ 7 ∷ 7 ∷ 7 ∷ 6 ∷ 6 ∷ 6 ∷ 6 ∷ []; tableau = listed 416 (deckCode deck) }
+      ≡ laid (replicate 4 255) (replicate 4 0) (7 ∷ 7 ∷ 7 ∷ 7 ∷ 6 ∷ 6 ∷ 6 ∷ 6 ∷ []) (listed tableauRoom (deckCode deck))
   unfolding dealt
   board-dealt =
       record-of-columns (replicate 4 255) (replicate 4 0) (dealtColumn deck)
-      ∙ ap (λ (c : List ℕ). record { cells = replicate 4 255; foundation = replicate 4 0; counts = c; tableau = listed 416 (λ p. getD (dealtColumn deck (p / room)) (p % room) 0) })
+      ∙ ap (λ (c : List ℕ). laid (replicate 4 255) (replicate 4 0) c (listed tableauRoom (λ p. getD (dealtColumn deck (p / room)) (p % room) 0)))
       (column-counts deck)
-      ∙ ap (λ (t : List ℕ). record { cells = replicate 4 255; foundation = replicate 4 0; counts = 7 ∷ 7 ∷ 7 ∷ 7 ∷ 6 ∷ 6 ∷ 6 ∷ 6 ∷ []; tableau = t })
-      (listed-same (λ p. getD (dealtColumn deck (p / room)) (p % room) 0) (deckCode deck) 416 (λ p h. dealt-row (p / room) (p % room) (omega arith)))
+      ∙ ap (λ (t : List ℕ). laid (replicate 4 255) (replicate 4 0) (7 ∷ 7 ∷ 7 ∷ 7 ∷ 6 ∷ 6 ∷ 6 ∷ 6 ∷ []) t)
+      (listed-same (λ p. getD (dealtColumn deck (p / room)) (p % room) 0) (deckCode deck) tableauRoom (λ p h. dealt-row (p / room) (p % room) (omega arith)))

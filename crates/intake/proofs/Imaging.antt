@@ -8,17 +8,17 @@ use borrow.Author.Tests.{le-leb, lt-leb, eq-eqb, ne-eqb}
 use lib.Dec.{leb}
 use lib.ListN.{length, getD, take, drop, length-drop}
 use lib.Seq.{drop-drop}
-use Rattle.card.specs.Words.{all, listed}
-use Rattle.card.specs.Answer.{Answer, given, refused}
-use Rattle.card.proofs.Words.{listed-same, second-fails, both}
-use Rattle.board.specs.Judged.{judged}
-use Rattle.board.specs.Record.{atMost, boardOf}
+use Rattle.base.specs.Words.{all, listed}
+use Rattle.base.specs.Answer.{Answer, given, refused}
+use Rattle.base.proofs.Words.{listed-same, second-fails, both}
+use Rattle.board.specs.Verdict.{verdictOn}
+use Rattle.board.specs.Record.{atMost, boardOf, laid, tableauRoom}
 use Rattle.intake.specs.Handed.{blank}
 use Rattle.board.specs.Refusal.{numberOf, examinedTold}
 use Rattle.intake.specs.Handed.{readingTold, beside}
 use Rattle.board.proofs.Tables.{part-length}
 use Rattle.board.proofs.Records.{record-of-columns, listed-back}
-use Rattle.intake.specs.Image.{framed, versioned, columnsIn, judgedWith, bodied, imageRead}
+use Rattle.intake.specs.Image.{framed, versioned, columnsIn, verdictWith, bodied, imageRead}
 use Rattle.board.specs.Inner.{partAt, Parts}
 use Rattle.intake.specs.Handed.{Hands}
 use Rattle.intake.specs.Inside.{partCode}
@@ -40,10 +40,10 @@ hands-yes q = record { told = sym q; board = ap beside (sym q) }
 
 pub board-of-parts : (cells foundation starts counts codes : List ℕ) → Parts starts counts codes
     → boardOf (record { cells = cells; foundation = foundation; columns = listed 8 (partAt starts counts codes) })
-    ≡ record { cells = cells; foundation = foundation; counts = counts; tableau = listed 416 (partCode starts counts codes) }
+    ≡ laid cells foundation counts (listed tableauRoom (partCode starts counts codes))
 board-of-parts cells foundation starts counts codes p =
     record-of-columns cells foundation (partAt starts counts codes)
-    ∙ ap (λ (c : List ℕ). record { cells = cells; foundation = foundation; counts = c; tableau = listed 416 (partCode starts counts codes) })
+    ∙ ap (λ (c : List ℕ). laid cells foundation c (listed tableauRoom (partCode starts counts codes)))
     (listed-same (λ i. length (partAt starts counts codes i)) (λ i. getD counts i 0) 8 (λ i h. part-length starts counts codes i (p .within i h))
     ∙ listed-back counts 8 (p .counts8))
 
@@ -64,23 +64,23 @@ module _ (image : List ℕ) where
 
     pub body-columns : {cells foundation : List ℕ} {r : Answer (List (List ℕ))}
         → cells ≡ take 4 (drop 3 image) → foundation ≡ take 4 (drop 7 image) → all (atMost 13) foundation ≡ true → columnsIn 8 (drop 11 image) ≡ r
-        → bodied (drop 3 image) ≡ judgedWith cells foundation r
+        → bodied (drop 3 image) ≡ verdictWith cells foundation r
     unfolding bodied
     body-columns c f e q = rw (body-long, drop-drop 4 3 image, drop-drop 8 3 image, ← c, ← f, e, q)
 
-pub columns-refused : (cells foundation : List ℕ) → judgedWith cells foundation (refused 12) ≡ refused 12
-unfolding judgedWith
+pub columns-refused : (cells foundation : List ℕ) → verdictWith cells foundation (refused 12) ≡ refused 12
+unfolding verdictWith
 columns-refused cells foundation = refl
 
 module _ (cells foundation : List ℕ) (columns : List (List ℕ)) {r : Examined}
-    (e : examinedTold r ≡ judged (record { cells = cells; foundation = foundation; columns = columns })) where
-  pub columns-bad : {why : Refusal} → r ≡ Refused why → judgedWith cells foundation (given columns) ≡ refused (numberOf why)
-  unfolding judgedWith
+    (e : examinedTold r ≡ verdictOn (record { cells = cells; foundation = foundation; columns = columns })) where
+  pub columns-bad : {why : Refusal} → r ≡ Refused why → verdictWith cells foundation (given columns) ≡ refused (numberOf why)
+  unfolding verdictWith
   columns-bad q = rw (← e, q)
 
   pub columns-good : r ≡ WellFormed
-      → judgedWith cells foundation (given columns) ≡ given (boardOf (record { cells = cells; foundation = foundation; columns = columns }))
-  unfolding judgedWith
+      → verdictWith cells foundation (given columns) ≡ given (boardOf (record { cells = cells; foundation = foundation; columns = columns }))
+  unfolding verdictWith
   columns-good q = rw (← e, q)
 
 -- ---- the length and the version

@@ -1,6 +1,6 @@
 -- Reading and dealing allow one result only: what is said, and every byte of the record beside it.
 use mathlib.Core.Path.{_≡_, refl, sym, ap, ap₂, _∙_}
-use Rattle.card.specs.Answer.{Answer, given, refused}
+use Rattle.base.specs.Answer.{Answer, given, refused}
 use Rattle.board.specs.declared.Board.{Board}
 use Rattle.board.specs.declared.Examined.{Examined}
 use Rattle.board.specs.declared.Examined.the-variants.{WellFormed, Refused}

@@ -9,9 +9,9 @@ use borrow.Author.Count.{below-more}
 use borrow.Author.Tests.{le-leb, lt-leb}
 use lib.ListN.{length, getD, take, drop, set, replicate, length-set, length-drop, drop-of-length-le}
 use lib.Seq.{getD-set-same, getD-set-other, drop-cons, drop-drop}
-use Rattle.card.specs.Words.{listed}
-use Rattle.card.specs.Answer.{Answer, given, refused}
-use Rattle.card.proofs.Words.{true-or-not, listed-same, listed-more}
+use Rattle.base.specs.Words.{listed}
+use Rattle.base.specs.Answer.{Answer, given, refused}
+use Rattle.base.proofs.Words.{true-or-not, listed-same, listed-more}
 use Rattle.board.proofs.Tables.{part-same, part-at}
 use Rattle.intake.specs.Image.{joining, columnsIn}
 use Rattle.board.specs.Inner.{partAt, Parts}

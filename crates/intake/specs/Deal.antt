@@ -4,11 +4,11 @@ use mathlib.Core.List.{List}
 use Prim.Native.Nat.{ℕ, _+_, _*_}
 use lib.ListN.{length, getD, replicate}
 use lib.Dec.{eqb, ltb}
-use Rattle.card.specs.Words.{all, listed}
-use Rattle.card.specs.Answer.{Answer, given, unless}
+use Rattle.base.specs.Words.{all, listed}
+use Rattle.base.specs.Answer.{Answer, given, unless}
 use Rattle.card.specs.Card.{isCard}
 use Rattle.board.specs.Table.{Table}
-use Rattle.board.specs.Judged.{noneTwice}
+use Rattle.board.specs.Verdict.{noneTwice}
 use Rattle.board.specs.Record.{boardOf}
 use Rattle.board.specs.declared.Board.{Board}
 

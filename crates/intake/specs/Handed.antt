@@ -2,8 +2,8 @@
 use mathlib.Core.Path.{_≡_}
 use Prim.Native.Nat.{_*_}
 use lib.ListN.{replicate}
-use Rattle.card.specs.Answer.{Answer, given, refused}
-use Rattle.board.specs.Record.{room}
+use Rattle.base.specs.Answer.{Answer, given, refused}
+use Rattle.board.specs.Record.{laid, tableauRoom}
 use Rattle.board.specs.Refusal.{numberOf}
 use Rattle.board.specs.declared.Board.{Board}
 use Rattle.board.specs.declared.Examined.{Examined}
@@ -12,7 +12,7 @@ use Rattle.intake.specs.declared.Reading.{Reading}
 
 -- the record beside a refusal: all zero, which is itself refused (13) wherever a board is asked for
 unfoldable pub blank : Board
-blank = record { cells = replicate 4 0; foundation = replicate 4 0; counts = replicate 8 0; tableau = replicate (8 * room) 0 }
+blank = laid (replicate 4 0) (replicate 4 0) (replicate 8 0) (replicate tableauRoom 0)
 
 abbrev pub boardTold : Examined → Board → Answer Board
 boardTold WellFormed b = given b

@@ -4,10 +4,10 @@ use mathlib.Core.List.{List, [], _∷_}
 use Prim.Native.Nat.{ℕ, zero, suc, _+_, _-_, _*_}
 use lib.ListN.{length, getD, take, drop}
 use lib.Dec.{eqb, leb}
-use Rattle.card.specs.Words.{all}
-use Rattle.card.specs.Answer.{Answer, given, refused, unless}
+use Rattle.base.specs.Words.{all}
+use Rattle.base.specs.Answer.{Answer, given, refused, unless}
 use Rattle.board.specs.Table.{Table}
-use Rattle.board.specs.Judged.{after, judged}
+use Rattle.board.specs.Verdict.{after, verdictOn}
 use Rattle.board.specs.Record.{atMost, boardOf}
 use Rattle.board.specs.declared.Board.{Board}
 
@@ -31,19 +31,19 @@ columnsIn zero (x ∷ rest) = refused 12
 columnsIn (suc n) [] = refused 12
 columnsIn (suc n) (count ∷ rest) = unless (leb count (length rest)) 12 (joining (take count rest) (columnsIn n (drop count rest)))
 
--- a table of these cells and piles, once its columns are known, judged
-unfoldable pub judgedWith : List ℕ → List ℕ → Answer (List (List ℕ)) → Answer Board
-judgedWith cells foundation (refused n) = refused n
-judgedWith cells foundation (given columns) =
+-- a table of these cells and piles, once its columns are known, verdictOn
+unfoldable pub verdictWith : List ℕ → List ℕ → Answer (List (List ℕ)) → Answer Board
+verdictWith cells foundation (refused n) = refused n
+verdictWith cells foundation (given columns) =
     let t : Table = record { cells = cells; foundation = foundation; columns = columns } in
-    after (judged t) (given (boardOf t))
+    after (verdictOn t) (given (boardOf t))
 
 -- the body: four cells, four foundation counts of at most 13, eight columns
 unfoldable pub bodied : List ℕ → Answer Board
 bodied body =
     unless (leb 8 (length body)) 12
     (unless (all (atMost 13) (take 4 (drop 4 body))) 12
-    (judgedWith (take 4 body) (take 4 (drop 4 body)) (columnsIn 8 (drop 8 body))))
+    (verdictWith (take 4 body) (take 4 (drop 4 body)) (columnsIn 8 (drop 8 body))))
 
 -- 10, 11, 12, 13, 14, 15 in that order, or the board
 unfoldable pub imageRead : List ℕ → Answer Board

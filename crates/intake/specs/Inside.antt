@@ -4,8 +4,8 @@ use mathlib.Core.Bool.{Bool, true, false}
 use mathlib.Core.List.{List}
 use Prim.Native.Nat.{ℕ, _+_, _*_, _/_, _%_}
 use lib.ListN.{getD, drop}
-use Rattle.card.specs.Words.{listed}
-use Rattle.card.specs.Answer.{given, refused}
+use Rattle.base.specs.Words.{listed}
+use Rattle.base.specs.Answer.{given, refused}
 use Rattle.board.specs.Record.{room}
 use Rattle.board.specs.Inner.{partAt, Parts}
 use Rattle.intake.specs.Image.{columnsIn}

@@ -1,20 +1,23 @@
-// Reading a board image. Codes and repeats are judged on what the image shows; a record is filled only from an image
+// Reading a board image. Codes and repeats are verdictOn on what the image shows; a record is filled only from an image
 // that is accepted.
 ghost use mathlib.Core.Path.{_≡_};
 ghost use Prim.Native.Nat.{_+_, _*_, _≤_, _<_};
 ghost use lib.ListN.{length, take, drop};
-ghost use Rattle.card.specs.Words.{listed};
+ghost use Rattle.base.specs.Words.{listed};
 ghost use Rattle.intake.specs.Image.{imageRead, bodied};
 ghost use Rattle.board.specs.Inner.{Parts};
 ghost use Rattle.intake.specs.Handed.{Hands};
 ghost use Rattle.intake.specs.Inside.{Outlined, partCode};
+ghost use Rattle.board.specs.Record.{tableauRoom};
 use crate::Reading;
 use crate::no_board;
 use board::Board;
+use board::CODES;
 use board::Examined;
 use board::Kind;
+use board::ROOM;
 use board::Refusal;
-use board::judge;
+use board::verdict;
 
 // Where an image's columns lie: the first code of each, and how many; ok if the last ends where the image does.
 struct Outline {
@@ -41,7 +44,7 @@ fn find_columns(image: &[u8]) -> Outline
         }
         let count = image[at];
         let start = at + 1;
-        let end = start + card::wide(count);
+        let end = start + base::wide(count);
         if image.len() < end {
             return Outline {
                 ok: false,
@@ -82,12 +85,12 @@ fn four_at(image: &[u8], at: usize) -> [u8; 4]
 // The code at one place of the flat array, 0 where its column has no such row.
 fn code_at<'a>(starts: &'a [usize; 8], counts: &'a [u8; 8], codes: &'a [u8], p: usize) -> u8
     requires { ⌜ Parts (now starts) (now counts) (now codes) ⌝ }
-    requires { ⌜ p < 416 ⌝ }
+    requires { ⌜ p < tableauRoom ⌝ }
     ensures { λ r. ⌜ r ≡ partCode (now (starts .entry)) (now (counts .entry)) (now (codes .entry)) p ⌝ }
 {
-    let i = p / 52;
-    let row = p % 52;
-    let count = card::wide(counts[i]);
+    let i = p / ROOM;
+    let row = p % ROOM;
+    let count = base::wide(counts[i]);
     if row < count {
         let start = starts[i];
         let at = start + row;
@@ -97,13 +100,13 @@ fn code_at<'a>(starts: &'a [usize; 8], counts: &'a [u8; 8], codes: &'a [u8], p: 
 }
 
 // The flat array of the eight columns.
-fn fill<'a>(starts: &'a [usize; 8], counts: &'a [u8; 8], codes: &'a [u8]) -> [u8; 416]
+fn fill<'a>(starts: &'a [usize; 8], counts: &'a [u8; 8], codes: &'a [u8]) -> [u8; CODES]
     requires { ⌜ Parts (now starts) (now counts) (now codes) ⌝ }
-    ensures { λ r. ⌜ r ≡ listed 416 (partCode (now (starts .entry)) (now (counts .entry)) (now (codes .entry))) ⌝ }
+    ensures { λ r. ⌜ r ≡ listed tableauRoom (partCode (now (starts .entry)) (now (counts .entry)) (now (codes .entry))) ⌝ }
 {
-    let mut tableau = [0u8; 416];
+    let mut tableau = [0u8; CODES];
     let mut p = 0;
-    while p < 416 {
+    while p < CODES {
         tableau[p] = code_at(starts, counts, codes, p);
         p += 1;
     }
@@ -120,7 +123,7 @@ fn read_body(image: &[u8]) -> Reading
     }
     let cells = four_at(image, 3);
     let foundation = four_at(image, 7);
-    if !judge::all_of(Kind::AtMost(13), &foundation) {
+    if !verdict::all_of(Kind::AtMost(13), &foundation) {
         return no_board(Refusal::WrongShape);
     }
     let lie = find_columns(image);
@@ -129,7 +132,13 @@ fn read_body(image: &[u8]) -> Reading
     }
     let starts = lie.starts;
     let counts = lie.counts;
-    if let Examined::Refused(why) = judge::judge(&cells, &foundation, &starts, &counts, image) {
+    if let Examined::Refused(why) = verdict::verdict_on(
+        &cells,
+        &foundation,
+        &starts,
+        &counts,
+        image,
+    ) {
         return no_board(why);
     }
     let tableau = fill(&starts, &counts, image);
@@ -149,8 +158,8 @@ fn read_body(image: &[u8]) -> Reading
 fn big_endian(high: u8, low: u8) -> usize
     ensures { λ r. ⌜ r ≡ high * 256 + low ⌝ }
 {
-    let upper = card::wide(high) * 256;
-    upper + card::wide(low)
+    let upper = base::wide(high) * 256;
+    upper + base::wide(low)
 }
 
 // 10, 11, 12, 13, 14, 15 in that order, or the board.

@@ -3,6 +3,7 @@ ghost use mathlib.Core.Path.{_≡_};
 ghost use Rattle.board.specs.declared.Examined.the-variants.{Refused};
 ghost use Rattle.intake.specs.Handed.{blank};
 use board::Board;
+use board::CODES;
 use board::Examined;
 use board::Refusal;
 
@@ -23,7 +24,7 @@ fn no_board(why: Refusal) -> Reading
         cells: [0; 4],
         foundation: [0; 4],
         counts: [0; 8],
-        tableau: [0; 416],
+        tableau: [0; CODES],
     };
     Reading {
         said: Examined::Refused(why),

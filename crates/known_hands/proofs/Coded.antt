@@ -8,11 +8,11 @@ use Prim.Native.Nat.{ℕ}
 use lib.IntN.{ℤ}
 use borrow.Author.Tests.{eqb-true}
 use lib.Dec.{eqb, ltb}
-use Rattle.card.specs.Answer.{given}
+use Rattle.base.specs.Answer.{given}
 use Rattle.card.specs.Card.{isCard}
-use Rattle.card.proofs.Words.{first, second}
+use Rattle.base.proofs.Words.{first, second}
 use Rattle.board.specs.Table.{Table}
-use Rattle.board.specs.Judged.{Verdict, fine, after}
+use Rattle.board.specs.Verdict.{Verdict, fine, after}
 use Rattle.board.specs.Record.{shown, examined}
 use Rattle.board.specs.declared.Board.{Board}
 use Rattle.questions.specs.Told.{countTold}

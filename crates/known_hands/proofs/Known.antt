@@ -1,24 +1,25 @@
 -- P1 to P11 hold: every definition is opened, and each row is evaluated by itself, so that a wrong one is refused by its name.
 use mathlib.Core.Path.{_≡_, refl}
 use mathlib.Core.Bool.{true, xor}
-use Rattle.card.proofs.Words.{both}
-use Rattle.card.specs.Words.{every, all, occurs, listed, concat, sum}
+use Rattle.base.proofs.Words.{both}
+use Rattle.base.specs.Words.{every, all, occurs, listed, concat, sum}
 use Rattle.card.specs.Card.{isValue, codeOf, isCard, cardOf}
 use Rattle.card.specs.Suit.{suitAt}
 use Rattle.card.specs.Pack.{cardAt}
 use Rattle.board.specs.Table.{pile, piles, held, cardsOn}
-use Rattle.board.specs.Judged.{isCell, onlyCards}
+use Rattle.board.specs.Verdict.{isCell, onlyCards}
 use Rattle.board.specs.Fair.{isFair}
 use Rattle.questions.specs.Questions.{homeCount, emptyCells, emptyColumns, wonOn}
-use Rattle.rules.specs.Fit.{red, follows, fitsOn, homeTakes}
-use Rattle.rules.specs.Run.{isRun, runLength}
+use Rattle.runs.specs.Follows.{red, follows}
+use Rattle.rules.specs.Fit.{fitsOn, homeTakes}
+use Rattle.runs.specs.Run.{isRun, runLength}
 use Rattle.rules.specs.Limit.{usable, mostMoved}
 use Rattle.moves.specs.Record.{recordOf}
 use Rattle.moves.specs.Play.{lastOf, othersOf, hand, without, afterMove, takes, allowed}
 use Rattle.replay.specs.Played.{afterMoves}
 use Rattle.generate.specs.Found.{offered, ifAllowed, gather, foundBetween, foundFrom, found}
-use Rattle.generate.specs.Asked.{bytesOf}
-use Rattle.order.specs.Rising.{placed, rising}
+use Rattle.moves.specs.Written.{bytesOf}
+use Rattle.base.specs.Rising.{placed, rising}
 use Rattle.signature.specs.Fnv.{xorDigits, fnvStep, fnvFrom, fnv}
 use Rattle.signature.specs.Signed.{homeWords, columnHashes, wordsOf, signed, signatureOf}
 use Rattle.score.specs.Features.{greatest, least, lastGoesHome, immediateOn, blockedIn, blockedOn, imbalanceOf, cellsUsed, longestRun, featuresOf}

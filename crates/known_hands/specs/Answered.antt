@@ -4,10 +4,10 @@ use mathlib.Core.Bool.{true}
 use mathlib.Core.List.{List}
 use Prim.Native.Nat.{ℕ}
 use lib.IntN.{ℤ}
-use Rattle.card.specs.Answer.{given}
+use Rattle.base.specs.Answer.{given}
 use Rattle.board.specs.declared.Board.{Board}
 use Rattle.moves.specs.declared.Move.{Move}
-use Rattle.generate.specs.Asked.{written}
+use Rattle.moves.specs.Written.{written}
 use Rattle.score.specs.Asked.{scoreTold}
 use Rattle.score.specs.declared.ScoreAnswer.{ScoreAnswer}
 use Rattle.search.specs.Solve.{Perhaps}

@@ -4,7 +4,7 @@ use mathlib.Core.List.{List, [], _∷_, _++_}
 use Prim.Native.Nat.{ℕ, _+_, _-_, _*_, _/_, _%_}
 use lib.Dec.{eqb, leb, ltb}
 use lib.ListN.{length, getD}
-use Rattle.card.specs.Words.{every, listed}
+use Rattle.base.specs.Words.{every, listed}
 use Rattle.card.specs.Pack.{cardAt}
 use Rattle.board.specs.Table.{Table}
 use Rattle.board.specs.Fair.{isFair}

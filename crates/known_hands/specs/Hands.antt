@@ -8,7 +8,7 @@ use lib.Signed.{leZ}
 use Rattle.card.specs.Card.{isCard}
 use Rattle.board.specs.Table.{Table}
 use Rattle.rules.specs.Limit.{mostMoved}
-use Rattle.generate.specs.Asked.{bytesOf}
+use Rattle.moves.specs.Written.{bytesOf}
 use Rattle.score.specs.Features.{featuresOf}
 use Rattle.score.specs.Scores.{heuristic, progress}
 use Rattle.safe.specs.Safe.{safe}

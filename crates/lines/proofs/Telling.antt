@@ -15,8 +15,8 @@ use Rattle.moves.specs.declared.Move.{Move}
 use Rattle.play.specs.Change.{Becomes}
 use Rattle.replay.specs.Played.{afterMoves}
 use Rattle.replay.proofs.Legal.{after-append}
-use Rattle.generate.specs.Asked.{Adds}
-use Rattle.generate.proofs.Writing.{adds-none, adds-same, adds-long, adds-more}
+use Rattle.moves.specs.Written.{Adds}
+use Rattle.moves.proofs.Writing.{adds-none, adds-same, adds-long, adds-more}
 use Rattle.safe.specs.Safe.{firstSafe}
 use Rattle.safe.specs.Chain.{chainOf, chain}
 use Rattle.safe.specs.declared.SafeMove.the-variants.{Is, NoMove}

@@ -7,7 +7,7 @@ use Rattle.board.specs.Inner.{Sound}
 use Rattle.board.specs.declared.Board.{Board}
 use Rattle.moves.specs.declared.Move.{Move}
 use Rattle.replay.specs.Played.{afterMoves}
-use Rattle.generate.specs.Asked.{Adds}
+use Rattle.moves.specs.Written.{Adds}
 use Rattle.lines.specs.declared.Written.{Written}
 
 -- their records after the first n, every other byte as it was; and the board after them

@@ -4,7 +4,7 @@ ghost use Prim.Native.Nat.{_+_, _*_, _<_, _≤_};
 ghost use lib.ListN.{length, take};
 ghost use Rattle.board.specs.Record.{shown};
 ghost use Rattle.board.specs.Inner.{Sound};
-ghost use Rattle.generate.specs.Asked.{Adds};
+ghost use Rattle.moves.specs.Written.{Adds, listRoom};
 ghost use Rattle.safe.specs.Chain.{chain};
 ghost use Rattle.candidates.specs.Children.{childMoves};
 ghost use Rattle.nodes.specs.Step.{moveIn};
@@ -14,6 +14,7 @@ ghost use Rattle.nodes.specs.Path.{Leads};
 ghost use Rattle.lines.specs.Written.{Writes};
 use board::Board;
 use moves::Decoded;
+use moves::MOST_MOVES;
 use safe::SafeMove;
 
 // The board after some moves, and how many records stand in the list then.
@@ -40,7 +41,7 @@ fn write_chain(b: Board, list: &mut [u8], n: usize) -> Written
         ) else {
             break;
         };
-        records = generate::write(list, records, m);
+        records = moves::write(list, records, m);
         board = play::apply_at(board, m);
         moves += 1;
     }
@@ -60,7 +61,7 @@ fn write_step(b: Board, step: u32, list: &mut [u8], n: usize) -> Written
             records: n,
         };
     };
-    let first = generate::write(list, n, m);
+    let first = moves::write(list, n, m);
     let next = play::apply_at(b, m);
     write_chain(next, list, first)
 }
@@ -88,10 +89,10 @@ pub fn write_line(root: Board, nodes: &[u32], n: usize, i: usize, list: &mut [u8
     requires { ⌜ Sound root ⌝ }
     requires { ⌜ Nodes (shown root) (now nodes) n ⌝ }
     requires { ⌜ i < n ⌝ }
-    requires { ⌜ 1000 ≤ length (now list) ⌝ }
+    requires { ⌜ listRoom ≤ length (now list) ⌝ }
     ensures { λ r. ⌜ Adds (now (list .entry)) (now (list .exit)) 0 r (lineTo (shown root) (now (nodes .entry)) i) ⌝ }
 {
-    let mut path = [0u32; 200];
+    let mut path = [0u32; MOST_MOVES];
     let deep = nodes::path::climb(nodes, n, i, &mut path);
     write_down(root, &path, deep, list)
 }

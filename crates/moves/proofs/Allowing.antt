@@ -9,17 +9,17 @@ use borrow.Author.Tests.{eqb-true, leb-true}
 use lib.Dec.{eqb, leb}
 use lib.ListN.{length, getD, take, length-take, length-drop}
 use lib.Seq.{ext-getD, getD-take, getD-drop}
-use Rattle.card.specs.Words.{occurs, listed}
+use Rattle.base.specs.Words.{occurs, listed}
 use Rattle.card.specs.Suit.{suitNumber}
 use Rattle.card.specs.Card.{isCard, isValue, codeOf}
 use Rattle.card.specs.declared.Card.{Card}
-use Rattle.card.proofs.Words.{first, second, listed-more, length-listed, getD-listed}
+use Rattle.base.proofs.Words.{first, second, listed-more, length-listed, getD-listed}
 use Rattle.card.proofs.Codes.{code-is-card, suit-below, card-is}
 use Rattle.board.specs.Table.{Table, pile, held, cardsOn}
 use Rattle.board.proofs.Tables.{cell-empty, cell-card}
 use Rattle.board.specs.Fair.{Seats}
 use Rattle.rules.specs.Fit.{homeTakes}
-use Rattle.rules.specs.Run.{isRun}
+use Rattle.runs.specs.Run.{isRun}
 use Rattle.moves.specs.Move.{cell, home, from, to, count, card, isPlace, sayable}
 use Rattle.moves.specs.Play.{there, cellCode, lastOf, othersOf, hand, without, afterMove, elsewhere, withinLimit, fitsColumn, cellFree, nextHome, takes, allowed}
 use Rattle.moves.specs.declared.Move.{Move}

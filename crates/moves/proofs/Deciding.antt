@@ -8,11 +8,11 @@ use native.Mathlib.Decide.{decLt}
 use borrow.Author.Tests.{le-leb, lt-leb, eq-eqb, ne-eqb, leb-true, eqb-true}
 use lib.Dec.{eqb, leb}
 use lib.ListN.{length, getD}
-use Rattle.card.specs.Answer.{Answer, given, unless}
+use Rattle.base.specs.Answer.{Answer, given, unless}
 use Rattle.card.specs.Card.{codeOf}
-use Rattle.card.proofs.Words.{true-or-not, both, first, second, first-fails, second-fails}
+use Rattle.base.proofs.Words.{true-or-not, both, first, second, first-fails, second-fails}
 use Rattle.board.specs.Table.{Table}
-use Rattle.rules.specs.Run.{isRun}
+use Rattle.runs.specs.Run.{isRun}
 use Rattle.moves.specs.Move.{from, to, count, card}
 use Rattle.moves.specs.Play.{there, lastOf, hand, elsewhere, withinLimit, fitsColumn, cellFree, nextHome, takes, causeNumber, played, allowed, afterMove, endsIn}
 use Rattle.moves.specs.declared.Move.{Move}

@@ -9,15 +9,15 @@ use borrow.Author.Tests.{ltb-true}
 use lib.Dec.{eqb, leb}
 use lib.ListN.{length, getD, take, drop, set, length-take, length-append, take-append-drop, length-set}
 use lib.Seq.{getD-set-same, getD-set-other}
-use Rattle.card.specs.Words.{all, listed, concat}
+use Rattle.base.specs.Words.{all, listed, concat}
 use Rattle.card.specs.Suit.{suitNumber}
 use Rattle.card.specs.Card.{isCard, isValue, codeOf}
 use Rattle.card.specs.Pack.{cardAt}
 use Rattle.card.specs.declared.Card.{Card}
-use Rattle.card.proofs.Words.{first, second, both, all-append, all-at, length-listed}
+use Rattle.base.proofs.Words.{first, second, both, all-append, all-at, length-listed}
 use Rattle.card.proofs.Codes.{value-is, suit-below}
 use Rattle.board.specs.Table.{Table, pile}
-use Rattle.board.specs.Judged.{isCell, onlyCards}
+use Rattle.board.specs.Verdict.{isCell, onlyCards}
 use Rattle.board.specs.Inner.{GoodPiles}
 use Rattle.board.proofs.Fitting.{pile-cards, held-cards}
 use Rattle.board.specs.Fair.{Seats, Fair}

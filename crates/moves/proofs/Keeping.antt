@@ -9,9 +9,9 @@ use native.Mathlib.Decide.{ℕ-discrete}
 use borrow.Author.Tests.{ltb-true}
 use lib.ListN.{length, getD, set, length-set, take-append-drop}
 use lib.Seq.{getD-set-same, getD-set-other}
-use Rattle.card.specs.Words.{occurs, concat, sum}
-use Rattle.card.proofs.Words.{occurs-append, occurs-concat}
-use Rattle.card.proofs.Sums.{sum-same}
+use Rattle.base.specs.Words.{occurs, concat, sum}
+use Rattle.base.proofs.Words.{occurs-append, occurs-concat}
+use Rattle.base.proofs.Sums.{sum-same}
 use Rattle.board.specs.Table.{Table, pile, piles, held, cardsOn}
 use Rattle.board.specs.Fair.{Seats}
 use Rattle.board.proofs.Tables.{held-append}

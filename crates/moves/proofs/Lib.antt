@@ -1,5 +1,6 @@
 -- Laws for the crates above.
 pub mod Records
+pub mod Writing
 pub mod Saying
 pub mod Keeping
 pub mod Allowing

@@ -7,9 +7,9 @@ use native.Mathlib.Omega.{arith}
 use borrow.Author.Tests.{eq-eqb, ne-eqb, le-ltb, ltb-true, leb-true}
 use lib.Dec.{eqb, leb, ltb}
 use lib.ListN.{length, getD}
-use Rattle.card.specs.Answer.{given, refused}
+use Rattle.base.specs.Answer.{given, refused}
 use Rattle.card.specs.Card.{isCard, isValue}
-use Rattle.card.proofs.Words.{first, second, first-fails, second-fails}
+use Rattle.base.proofs.Words.{first, second, first-fails, second-fails}
 use Rattle.moves.specs.Move.{Place, column, cell, home, from, to, count, card, isPlace, sayable}
 use Rattle.moves.specs.Record.{sourceRoom, targetAllows, countAllows, possible, moveSaid, moveOf, moveAsked}
 use Rattle.moves.specs.declared.Move.{Move}

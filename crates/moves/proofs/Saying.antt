@@ -11,9 +11,9 @@ use Rattle.card.specs.Suit.{suitNumber, suitAt}
 use Rattle.card.specs.Card.{isCard, isValue, cardOf, codeOf}
 use Rattle.card.specs.declared.Card.{Card}
 use Rattle.card.specs.declared.Suit.{Suit}
-use Rattle.card.specs.Answer.{given, unless}
-use Rattle.card.proofs.Answers.{given-by}
-use Rattle.card.proofs.Words.{true-or-not, both, first, second}
+use Rattle.base.specs.Answer.{given, unless}
+use Rattle.base.proofs.Answers.{given-by}
+use Rattle.base.proofs.Words.{true-or-not, both, first, second}
 use Rattle.card.proofs.Codes.{card-is, value-of-card, card-code, code-card, code-is-card, suit-below, suit-at-number, number-suit-at}
 use Rattle.moves.specs.Move.{sayable}
 use Rattle.moves.specs.Record.{sourceRoom, targetAllows, countAllows, possible, moveSaid, moveOf, moveAsked, recordOf}

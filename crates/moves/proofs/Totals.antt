@@ -7,7 +7,7 @@ use native.Mathlib.Omega.{arith}
 use borrow.Author.Tests.{ltb-true}
 use lib.ListN.{length, getD, set, length-append}
 use lib.Seq.{getD-set-same, getD-set-other}
-use Rattle.card.proofs.Words.{length-listed}
+use Rattle.base.proofs.Words.{length-listed}
 use Rattle.board.specs.Table.{Table, pile}
 use Rattle.board.specs.Fair.{Seats}
 use Rattle.questions.specs.Questions.{homeCount}

@@ -1,7 +1,7 @@
 -- `decode` allows one result only (`encode` promises `r ≡ recordOf m`: card's `once`).
 use mathlib.Core.Path.{_≡_, refl}
-use Rattle.card.specs.Answer.{Answer, given, refused}
-use Rattle.card.proofs.Unique.{told-once}
+use Rattle.base.specs.Answer.{Answer, given, refused}
+use Rattle.base.proofs.Unique.{told-once}
 use Rattle.moves.specs.Record.{moveTold}
 use Rattle.moves.specs.declared.Move.{Move}
 use Rattle.moves.specs.declared.Decoded.{Decoded}

@@ -2,3 +2,4 @@
 pub mod Move
 pub mod Record
 pub mod Play
+pub mod Written

@@ -4,11 +4,11 @@ use mathlib.Core.List.{List, [], _∷_, _++_}
 use Prim.Native.Nat.{ℕ, _-_}
 use lib.Dec.{eqb, leb}
 use lib.ListN.{length, getD, take, drop, set}
-use Rattle.card.specs.Answer.{Answer, given, unless}
+use Rattle.base.specs.Answer.{Answer, given, unless}
 use Rattle.card.specs.Card.{codeOf}
 use Rattle.board.specs.Table.{Table, pile, held}
 use Rattle.rules.specs.Fit.{fitsOn, homeTakes}
-use Rattle.rules.specs.Run.{isRun}
+use Rattle.runs.specs.Run.{isRun}
 use Rattle.rules.specs.Limit.{mostMoved}
 use Rattle.moves.specs.Move.{Place, column, cell, home, from, to, count, card}
 use Rattle.moves.specs.declared.Move.{Move}

@@ -2,12 +2,19 @@
 ghost use mathlib.Core.Path.{_≡_};
 ghost use mathlib.Core.Bool.{true};
 ghost use mathlib.Core.List.{_∷_, []};
-ghost use Prim.Native.Nat.{_<_};
+ghost use Prim.Native.Nat.{_+_, _*_, _<_, _≤_};
+ghost use lib.ListN.{length};
 ghost use Rattle.card.specs.Card.{isCard};
 ghost use Rattle.moves.specs.Move.{sayable};
 ghost use Rattle.moves.specs.Record.{sourceRoom, targetAllows, countAllows, moveSaid, moveAsked, moveTold, sayableTold, recordOf};
+ghost use Rattle.moves.specs.Written.{Adds};
 use card::Card;
 use card::Suit;
+
+// The most moves of a line, and the room for their records.
+pub const MOST_MOVES: usize = 200;
+
+pub const LIST_ROOM: usize = 5 * MOST_MOVES;
 
 // Runs are a source and a count; the card is the deepest that is moved.
 pub enum Move {
@@ -94,10 +101,10 @@ fn move_said(kind: u8, from: u8, to: u8, count: u8, code: u8) -> Move
     ensures { λ r. ⌜ r ≡ moveSaid kind from to count code ⌝ }
 {
     let card = card::card_of(code);
-    let source = card::wide(from);
-    let destination = card::wide(to);
+    let source = base::wide(from);
+    let destination = base::wide(to);
     if kind == 1 {
-        let count = card::wide(count);
+        let count = base::wide(count);
         return Move::TableauToTableau {
             source,
             destination,
@@ -188,7 +195,7 @@ pub fn encode(m: Move) -> [u8; 5]
         } => five(1, source, destination, count, card::code_of(card)),
         Move::TableauToFoundation { source, card } => {
             let suit = card.suit;
-            let to = card::wide(suit.number());
+            let to = base::wide(suit.number());
             five(2, source, to, 1, card::code_of(card))
         }
         Move::TableauToFreeCell {
@@ -203,7 +210,7 @@ pub fn encode(m: Move) -> [u8; 5]
         } => five(4, cell_index, destination, 1, card::code_of(card)),
         Move::FreeCellToFoundation { cell_index, card } => {
             let suit = card.suit;
-            let to = card::wide(suit.number());
+            let to = base::wide(suit.number());
             five(5, cell_index, to, 1, card::code_of(card))
         }
         Move::FoundationToTableau {
@@ -211,8 +218,24 @@ pub fn encode(m: Move) -> [u8; 5]
             destination,
             card,
         } => {
-            let from = card::wide(suit.number());
+            let from = base::wide(suit.number());
             five(6, from, destination, 1, card::code_of(card))
         }
     }
+}
+
+// One record more.
+pub fn write(out: &mut [u8], n: usize, m: Move) -> usize
+    requires { ⌜ sayable m ≡ true ⌝ }
+    requires { ⌜ (n + 1) * 5 ≤ length (now out) ⌝ }
+    ensures { λ r. ⌜ Adds (now (out .entry)) (now (out .exit)) n r (m ∷ []) ⌝ }
+{
+    let bytes = encode(m);
+    let at = n * 5;
+    out[at] = bytes[0];
+    out[at + 1] = bytes[1];
+    out[at + 2] = bytes[2];
+    out[at + 3] = bytes[3];
+    out[at + 4] = bytes[4];
+    n + 1
 }

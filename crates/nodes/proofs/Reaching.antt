@@ -13,7 +13,7 @@ use Rattle.moves.specs.declared.Move.{Move}
 use Rattle.moves.proofs.Records.{said-from, said-count}
 use Rattle.moves.proofs.Allowing.{allowed-is}
 use Rattle.moves.proofs.Fairness.{fair-cards}
-use Rattle.rules.specs.Run.{runLength}
+use Rattle.runs.specs.Run.{runLength}
 use Rattle.rules.proofs.Laying.{run-top, run-13}
 use borrow.Author.Tests.{leb-true}
 use Rattle.board.specs.Fair.{Fair}

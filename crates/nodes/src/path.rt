@@ -2,14 +2,16 @@
 ghost use mathlib.Core.Path.{_≡_};
 ghost use Prim.Native.Nat.{_<_, _≤_};
 ghost use lib.ListN.{length, take};
-ghost use Rattle.board.specs.Record.{shown, boardOf};
+ghost use Rattle.board.specs.Record.{shown, boardOf, laid};
 ghost use Rattle.board.specs.Inner.{Sound};
 ghost use Rattle.nodes.specs.Line.{stepsTo, tableBy, tableTo};
 ghost use Rattle.nodes.specs.Nodes.{Makes, Costs, Linked, Nodes};
 ghost use Rattle.nodes.specs.Path.{Climbs, Plays, Leads};
 use crate::words;
 use board::Board;
+use board::CODES;
 use moves::Decoded;
+use moves::MOST_MOVES;
 
 // The steps from node i up to the root, the last one first; how many there are.
 pub fn climb(nodes: &[u32], n: usize, i: usize, path: &mut [u32]) -> usize
@@ -37,12 +39,12 @@ fn play_step(
     cells: &mut [u8; 4],
     foundation: &mut [u8; 4],
     counts: &mut [u8; 8],
-    tableau: &mut [u8; 416],
+    tableau: &mut [u8; CODES],
 )
-    requires { ⌜ Sound (record { cells = now cells; foundation = now foundation; counts = now counts; tableau = now tableau }) ⌝ }
-    requires { ⌜ Makes (shown (record { cells = now cells; foundation = now foundation; counts = now counts; tableau = now tableau })) step ⌝ }
-    requires { ⌜ Costs (shown (record { cells = now cells; foundation = now foundation; counts = now counts; tableau = now tableau })) before step ⌝ }
-    ensures { λ r. ⌜ Plays (record { cells = now (cells .entry); foundation = now (foundation .entry); counts = now (counts .entry); tableau = now (tableau .entry) }) step (record { cells = now (cells .exit); foundation = now (foundation .exit); counts = now (counts .exit); tableau = now (tableau .exit) }) ⌝ }
+    requires { ⌜ Sound (laid (now cells) (now foundation) (now counts) (now tableau)) ⌝ }
+    requires { ⌜ Makes (shown (laid (now cells) (now foundation) (now counts) (now tableau))) step ⌝ }
+    requires { ⌜ Costs (shown (laid (now cells) (now foundation) (now counts) (now tableau))) before step ⌝ }
+    ensures { λ r. ⌜ Plays (laid (now (cells .entry)) (now (foundation .entry)) (now (counts .entry)) (now (tableau .entry))) step (laid (now (cells .exit)) (now (foundation .exit)) (now (counts .exit)) (now (tableau .exit))) ⌝ }
 {
     let Decoded::Is(m) = words::move_in(step) else {
         return;
@@ -97,7 +99,7 @@ pub fn board_of(root: Board, nodes: &[u32], n: usize, i: usize) -> Board
     ensures { λ r. ⌜ r ≡ boardOf (tableTo (shown root) (now (nodes .entry)) i) ⌝ }
     ensures { λ r. ⌜ Sound r ⌝ }
 {
-    let mut path = [0u32; 200];
+    let mut path = [0u32; MOST_MOVES];
     let deep = climb(nodes, n, i, &mut path);
     play_down(root, &path, deep)
 }

@@ -85,11 +85,11 @@ fn step_word(m: Move, cost: usize) -> u32
     ensures { λ r. ⌜ r ≡ stepWord m cost ⌝ }
 {
     let bytes = moves::encode(m);
-    let kind = card::wide(bytes[0]);
-    let from = card::wide(bytes[1]);
-    let to = card::wide(bytes[2]);
-    let count = card::wide(bytes[3]);
-    let code = card::wide(bytes[4]);
+    let kind = base::wide(bytes[0]);
+    let from = base::wide(bytes[1]);
+    let to = base::wide(bytes[2]);
+    let count = base::wide(bytes[3]);
+    let code = base::wide(bytes[4]);
     pack(kind, from, to, count, code, cost)
 }
 

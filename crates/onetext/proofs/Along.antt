@@ -4,8 +4,8 @@ use mathlib.Core.List.{List, [], _++_, append-assoc, append-nil}
 use Prim.Native.Nat.{ℕ, _+_, _≤_}
 use native.Mathlib.Omega.{arith}
 use lib.ListN.{length, take, drop, take-append-drop}
-use Rattle.score.specs.Asked.{Puts}
-use Rattle.score.proofs.Putting.{puts-long, puts-more, puts-same}
+use Rattle.base.specs.Put.{Puts}
+use Rattle.base.proofs.Putting.{puts-long, puts-more, puts-same}
 
 pub record Along (old now whole rest : List ℕ) (at to : ℕ) : Type 0 where
   pub done : List ℕ

@@ -1,21 +1,21 @@
 -- What the search gives `oneboard`: small numbers, and a list that holds the records of its moves.
-use mathlib.Core.Path.{_≡_, refl, sym, ap, ap₂, _∙_}
+use mathlib.Core.Path.{_≡_, refl, ap, ap₂, _∙_}
 use mathlib.Core.Bool.{false}
 use mathlib.Core.List.{List, [], _∷_, _++_, append-assoc}
 use Prim.Native.Nat.{ℕ, _+_, _*_, _≤_}
 use native.Mathlib.Omega.{arith}
 use lib.ListN.{length, take, drop}
 use lib.Seq.{take-at, drop-at}
-use Rattle.board.specs.Judged.{Verdict, fine}
+use Rattle.board.specs.Verdict.{Verdict, fine}
 use Rattle.board.specs.Record.{shown, examined}
 use Rattle.board.specs.declared.Board.{Board}
 use Rattle.intake.proofs.Accepted.{Fine, fine-sound}
 use Rattle.moves.specs.Record.{recordOf}
 use Rattle.moves.specs.declared.Move.{Move}
-use Rattle.generate.specs.Asked.{bytesOf, written}
-use Rattle.generate.proofs.Writing.{record-long}
-use Rattle.score.specs.Asked.{Puts}
-use Rattle.score.proofs.Putting.{puts-more, puts-same}
+use Rattle.moves.specs.Written.{bytesOf, written}
+use Rattle.moves.proofs.Writing.{record-long}
+use Rattle.base.specs.Put.{Puts}
+use Rattle.base.proofs.Putting.{puts-more, puts-same}
 use Rattle.search.specs.Freecell.{freecell, judge}
 use Rattle.search.specs.Solve.{Perhaps, none, some, Answer}
 use Rattle.search.proofs.Judge.{T1, T4-pops}

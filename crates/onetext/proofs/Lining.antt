@@ -6,10 +6,10 @@ use native.Mathlib.Numerals.{add-one}
 use native.Mathlib.Omega.{arith}
 use lib.ListN.{length, getD, take, drop, length-drop, drop-of-length-le}
 use lib.Seq.{drop-cons, drop-drop, length-take-le}
-use Rattle.score.specs.Asked.{Puts}
+use Rattle.base.specs.Put.{Puts}
 use Rattle.score.specs.Token.{decimal}
 use Rattle.score.proofs.Digits.{long-three}
-use Rattle.score.proofs.Putting.{puts-long, puts-more, puts-same}
+use Rattle.base.proofs.Putting.{puts-long, puts-more, puts-same}
 use Rattle.onetext.specs.Text.{line, lineEnd}
 use Rattle.onetext.specs.Inner.{PutsFew, recordLines}
 use Rattle.onetext.proofs.Along.{Along, along-start, along-long, along-on, along-end}

@@ -1,5 +1,5 @@
 -- The whole text: the token and the answer of a board, a refusal's number, or 10.
-use mathlib.Core.Path.{_≡_, refl, sym, ap, _∙_, subst}
+use mathlib.Core.Path.{_≡_, sym, ap, _∙_, subst}
 use mathlib.Core.Bool.{Bool, true, false, cond}
 use mathlib.Core.List.{List, [], _∷_, _++_}
 use Prim.Native.Nat.{ℕ, _+_, _<_, _≤_}
@@ -7,7 +7,7 @@ use native.Mathlib.Omega.{arith}
 use borrow.Author.Tests.{le-leb, lt-leb}
 use lib.Dec.{leb}
 use lib.ListN.{length, drop, length-append}
-use Rattle.card.specs.Answer.{Answer, given, refused}
+use Rattle.base.specs.Answer.{Answer, given}
 use Rattle.board.specs.Record.{shown}
 use Rattle.board.specs.Refusal.{numberOf}
 use Rattle.board.specs.declared.Board.{Board}
@@ -18,17 +18,16 @@ use Rattle.intake.specs.Image.{imageRead}
 use Rattle.intake.specs.Handed.{Hands, boardTold}
 use Rattle.intake.specs.declared.Reading.{Reading}
 use Rattle.intake.proofs.Accepted.{Fine, read-fine, fine-sound}
-use Rattle.score.specs.Asked.{Puts, over}
+use Rattle.base.specs.Put.{Puts, over}
 use Rattle.score.specs.Features.{featuresOf, Bounded}
 use Rattle.score.specs.Token.{tokenOf}
 use Rattle.score.specs.declared.Features.{Features}
 use Rattle.score.proofs.Bounds.{bounded}
 use Rattle.score.proofs.Digits.{token-32}
-use Rattle.score.proofs.Putting.{puts-long, puts-more, puts-same, puts-over}
+use Rattle.base.proofs.Putting.{puts-long, puts-more, puts-same, puts-over}
 use Rattle.search.specs.Freecell.{judge}
 use Rattle.onetext.specs.Text.{line, answerText, handText, readText, text}
 use Rattle.onetext.specs.Told.{Tells}
-use Rattle.onetext.specs.Inner.{PutsFew}
 
 -- ---- a board: its token, a newline, its answer
 

@@ -3,7 +3,7 @@ use mathlib.Core.Path.{_≡_}
 use mathlib.Core.List.{List, [], _++_}
 use Prim.Native.Nat.{ℕ, zero, suc, _+_, _≤_}
 use lib.ListN.{length, take, drop}
-use Rattle.score.specs.Asked.{Puts}
+use Rattle.base.specs.Put.{Puts}
 use Rattle.onetext.specs.Text.{line}
 
 -- some bytes at a place, at most so many

@@ -5,7 +5,7 @@ use mathlib.Core.List.{List}
 use Prim.Native.Nat.{ℕ}
 use lib.Dec.{leb}
 use lib.ListN.{length}
-use Rattle.score.specs.Asked.{over}
+use Rattle.base.specs.Put.{over}
 use Rattle.onetext.specs.Text.{text}
 
 -- the room that is asked for; no text is longer

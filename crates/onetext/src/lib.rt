@@ -5,13 +5,14 @@ ghost use Prim.Native.Nat.{_+_, _*_, _≤_};
 ghost use lib.ListN.{length};
 ghost use Rattle.board.specs.Record.{shown};
 ghost use Rattle.intake.proofs.Accepted.{Fine};
-ghost use Rattle.score.specs.Asked.{Puts};
+ghost use Rattle.base.specs.Put.{Puts};
 ghost use Rattle.search.specs.Freecell.{judge};
 ghost use Rattle.onetext.specs.Text.{answerText, handText};
 ghost use Rattle.onetext.specs.Told.{Tells};
 ghost use Rattle.onetext.specs.Inner.{Scratch};
 use board::Board;
 use board::Examined;
+use moves::LIST_ROOM;
 
 mod write;
 
@@ -48,12 +49,12 @@ fn put_hand(b: Board, out: &mut [u8]) -> usize
 {
     let f = score::measure::compute_features(&b.cells, &b.foundation, &b.counts, &b.tableau);
     let token = score::token::token_at(f, out);
-    let after = score::token::put_bytes(out, token, b"\n");
+    let after = base::put::put_bytes(out, token, b"\n");
     let mut nodes = [0u32; 192];
     let mut heap = [0u64; 64];
     let mut keys = [0u64; 128];
     let mut costs = [0u8; 128];
-    let mut list = [0u8; 1000];
+    let mut list = [0u8; LIST_ROOM];
     put_answer(
         b,
         out,

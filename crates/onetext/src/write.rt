@@ -1,7 +1,7 @@
 // Lines of numbers, written into lent room.
 ghost use Prim.Native.Nat.{_+_, _-_, _*_, _≤_};
 ghost use lib.ListN.{length, drop};
-ghost use Rattle.score.specs.Asked.{Puts};
+ghost use Rattle.base.specs.Put.{Puts};
 ghost use Rattle.onetext.specs.Text.{line, lineEnd};
 ghost use Rattle.onetext.specs.Inner.{PutsFew, recordLines};
 use score::token;
@@ -15,11 +15,11 @@ fn put_rest(out: &mut [u8], at: usize, numbers: &[u8]) -> usize
     let mut to = at;
     let mut k = 1;
     while k < numbers.len() {
-        let n = card::wide(numbers[k]);
+        let n = base::wide(numbers[k]);
         to = token::put(out, to, b" ", n);
         k += 1;
     }
-    token::put_bytes(out, to, b"\n")
+    base::put::put_bytes(out, to, b"\n")
 }
 
 // A line of numbers below 256, at a place.
@@ -28,7 +28,7 @@ pub fn put_line(out: &mut [u8], at: usize, numbers: &[u8]) -> usize
     requires { ⌜ at + length (now numbers) * 4 ≤ length (now out) ⌝ }
     ensures { λ r. ⌜ PutsFew (now (out .entry)) (now (out .exit)) at r (length (now (numbers .entry)) * 4) (line (now (numbers .entry))) ⌝ }
 {
-    let first = card::wide(numbers[0]);
+    let first = base::wide(numbers[0]);
     let to = token::put_number(out, at, first);
     put_rest(out, to, numbers)
 }

@@ -1,6 +1,8 @@
 // The line about a board: the plain answers, or a refusal by its number; and the line about a deck.
 use board::Board;
+use board::CODES;
 use board::Examined;
+use board::ROOM;
 use board::Refusal;
 use card::Coded;
 use questions::CountAnswer;
@@ -111,9 +113,9 @@ pub(crate) fn of_image(image: &[u8]) {
 }
 
 fn code_at(b: Board, i: u8, row: u8) -> u8 {
-    let first = i as usize * 52;
+    let first = i as usize * ROOM;
     let at = first + row as usize;
-    if at < 416 {
+    if at < CODES {
         return b.tableau[at];
     }
     0

@@ -88,39 +88,39 @@ fn words(list: &[u32]) {
 
 fn replay(board: &[u8], list: &[u8], room: &mut [u8]) {
     let mut played = 7;
-    let answer = cabinet::corbelnib_replay(board, list, room, &mut played);
+    let answer = corbelnib::corbelnib_replay(board, list, room, &mut played);
     told(answer, played);
 }
 
 fn moves(board: &[u8], kind: u8, room: &mut [u8]) {
     let mut count = 7;
-    let answer = cabinet::corbelnib_moves(board, kind, room, &mut count);
+    let answer = corbelnib::corbelnib_moves(board, kind, room, &mut count);
     told(answer, count);
 }
 
 fn candidates(board: &[u8], room: &mut [u8]) {
     let mut count = 7;
-    let answer = cabinet::corbelnib_candidates(board, room, &mut count);
+    let answer = corbelnib::corbelnib_candidates(board, room, &mut count);
     told(answer, count);
 }
 
 fn priority(board: &[u8], record: &[u8]) {
     let mut priority = -7;
-    let answer = cabinet::corbelnib_priority(board, record, &mut priority);
+    let answer = corbelnib::corbelnib_priority(board, record, &mut priority);
     number(wide(answer));
     signed(priority);
 }
 
 fn chain(board: &[u8], room: &mut [u8]) {
     let mut moves = 7;
-    let answer = cabinet::corbelnib_chain(board, room, &mut moves);
+    let answer = corbelnib::corbelnib_chain(board, room, &mut moves);
     told(answer, moves);
 }
 
 fn scores(board: &[u8]) {
     let mut heuristic = -7;
     let mut progress = -8;
-    let answer = cabinet::corbelnib_scores(board, &mut heuristic, &mut progress);
+    let answer = corbelnib::corbelnib_scores(board, &mut heuristic, &mut progress);
     number(wide(answer));
     signed(heuristic);
     signed(progress);
@@ -128,7 +128,7 @@ fn scores(board: &[u8]) {
 
 fn signature(board: &[u8]) {
     let mut signature = 7;
-    let answer = cabinet::corbelnib_signature(board, &mut signature);
+    let answer = corbelnib::corbelnib_signature(board, &mut signature);
     number(wide(answer));
     io::print_decimal(1, signature);
     space();
@@ -136,7 +136,7 @@ fn signature(board: &[u8]) {
 
 fn token(board: &[u8], room: &mut [u8]) {
     let mut count = 7;
-    let answer = cabinet::corbelnib_token(board, room, &mut count);
+    let answer = corbelnib::corbelnib_token(board, room, &mut count);
     told(answer, count);
 }
 
@@ -144,7 +144,7 @@ fn of_features(board: &[u8], features: &mut [u64], length: usize) {
     if features.len() < length {
         return;
     }
-    let answer = cabinet::corbelnib_features(board, &mut features[..length]);
+    let answer = corbelnib::corbelnib_features(board, &mut features[..length]);
     number(wide(answer));
 }
 
@@ -171,7 +171,7 @@ fn capacity(s: &[u8], flag: u8) {
     let heap = length(s[3], s[4], s[5], flag);
     let keys = length(s[6], s[7], s[8], flag);
     let costs = length(s[9], s[10], s[11], flag);
-    number(cabinet::corbelnib_capacity(nodes, heap, keys, costs));
+    number(corbelnib::corbelnib_capacity(nodes, heap, keys, costs));
 }
 
 fn judged(
@@ -186,7 +186,7 @@ fn judged(
 ) {
     let mut pops = 7;
     let mut moves = 8;
-    let answer = cabinet::corbelnib_judge(
+    let answer = corbelnib::corbelnib_judge(
         board,
         budget,
         partial,
@@ -269,7 +269,7 @@ fn judge(board: &[u8], settings: &[u8], partial: u8, list: &mut [u8]) {
 // The functions that are lent no room for bytes.
 fn asked(function: u8, board: &[u8], bytes: &[u8], kind: u8, room: usize) {
     match function {
-        1 => number(wide(cabinet::corbelnib_examine(board))),
+        1 => number(wide(corbelnib::corbelnib_examine(board))),
         10 => priority(board, bytes),
         11 => scores(board),
         12 => signature(board),
@@ -282,9 +282,9 @@ fn asked(function: u8, board: &[u8], bytes: &[u8], kind: u8, room: usize) {
 // The functions that are.
 fn handed(function: u8, board: &[u8], bytes: &[u8], kind: u8, room: &mut [u8]) {
     match function {
-        2 => number(wide(cabinet::corbelnib_read(bytes, room))),
-        3 => number(wide(cabinet::corbelnib_deal(bytes, room))),
-        4 => number(wide(cabinet::corbelnib_move(board, bytes, room))),
+        2 => number(wide(corbelnib::corbelnib_read(bytes, room))),
+        3 => number(wide(corbelnib::corbelnib_deal(bytes, room))),
+        4 => number(wide(corbelnib::corbelnib_move(board, bytes, room))),
         5 => replay(board, bytes, room),
         6 => chain(board, room),
         7 => moves(board, kind, room),
@@ -341,7 +341,7 @@ fn case(s: &[u8], rest: &[u8]) {
         return;
     }
     let mut board = [0u8; 440];
-    cabinet::corbelnib_read(&rest[size..], &mut board);
+    corbelnib::corbelnib_read(&rest[size..], &mut board);
     put(&mut board, pair(s[5], s[6]), s[7]);
     with_board(s, &board, &rest[0..size]);
 }

@@ -63,7 +63,7 @@ fn judged(
     let mut list = [MARK; 1000];
     let mut pops = 0;
     let mut moves = 0;
-    let answer = cabinet::corbelnib_judge(
+    let answer = corbelnib::corbelnib_judge(
         board,
         budget,
         partial,
@@ -160,7 +160,7 @@ fn case(s: &[u8]) {
     let budget = triple(s[0], s[1], s[2]);
     let capacity = pair(s[3], s[4]);
     let mut board = [0u8; 432];
-    let refused = cabinet::corbelnib_read(&s[6..], &mut board);
+    let refused = corbelnib::corbelnib_read(&s[6..], &mut board);
     if refused == 0 {
         judge(&board, budget, capacity, s[5]);
     } else {

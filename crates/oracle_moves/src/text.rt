@@ -1,6 +1,8 @@
 // How numbers, bytes and boards are written.
 ghost use Prim.Native.Nat.{_≤_};
 use board::Board;
+use board::CODES;
+use board::ROOM;
 
 fn wide(x: u8) -> u64 {
     x as u64
@@ -73,15 +75,15 @@ fn columns<'a>(counts: &'a [u8], tableau: &'a [u8]) {
     if counts.len() < 8 {
         return;
     }
-    if tableau.len() < 416 {
+    if tableau.len() < CODES {
         return;
     }
     let mut spare = 0;
     let mut i = 0;
     while i < 8 {
-        let first = i * 52;
-        let end = first + 52;
-        spare = spare % 416 + column(&tableau[first..end], card::wide(counts[i])) % 53;
+        let first = i * ROOM;
+        let end = first + ROOM;
+        spare = spare % CODES + column(&tableau[first..end], base::wide(counts[i])) % 53;
         i += 1;
     }
     space();

@@ -8,10 +8,10 @@ use native.Mathlib.Decide.{ℕ-discrete, decLt}
 use borrow.Author.Count.{below-more}
 use lib.ListN.{length, getD, take, drop, set, length-set, length-append, length-take, length-drop, take-append-drop, List·getD-eq-default, List·getD-append}
 use lib.Seq.{ext-getD, getD-set-same, getD-set-other, getD-append-seam, getD-append-add, getD-take, getD-drop}
-use Rattle.card.specs.Words.{all, listed}
+use Rattle.base.specs.Words.{all, listed}
 use Rattle.card.specs.Card.{isCard}
-use Rattle.card.proofs.Words.{first, second, all-at, all-by, all-append, both, length-listed, getD-listed}
-use Rattle.board.specs.Record.{room, columnAt, shown}
+use Rattle.base.proofs.Words.{first, second, all-at, all-by, all-append, both, length-listed, getD-listed}
+use Rattle.board.specs.Record.{room, columnAt, shown, laid, tableauRoom}
 use Rattle.board.specs.Inner.{GoodColumns}
 use Rattle.board.specs.declared.Board.{Board}
 use Rattle.board.proofs.Soundness.{column-length, column-code}
@@ -25,7 +25,7 @@ unfolding all
 one-card x e = both e refl
 
 module _ {counts tableau : List ℕ} (g : GoodColumns counts tableau) (i : ℕ) (h : i < 8) (l : List ℕ) (short : length l ≤ room) (cards : all isCard l ≡ true)
-    (n : ℕ) (many : n ≡ length l) (T : List ℕ) (full : length T ≡ 8 * room)
+    (n : ℕ) (many : n ≡ length l) (T : List ℕ) (full : length T ≡ tableauRoom)
     (here : (j : ℕ) → j < room → getD T (i * room + j) 0 ≡ getD l j 0)
     (others : (k j : ℕ) → k < 8 → (k ≡ i → ⊥) → j < room → getD T (k * room + j) 0 ≡ getD tableau (k * room + j) 0) where
   count-here : getD (set counts i n) i 0 ≡ length l
@@ -102,10 +102,10 @@ module _ {counts tableau : List ℕ} (g : GoodColumns counts tableau) (i : ℕ) 
 
 -- the record with that column
 module _ (b : Board) (g : GoodColumns (b .counts) (b .tableau)) (i : ℕ) (h : i < 8) (l : List ℕ) (short : length l ≤ room) (cards : all isCard l ≡ true)
-    (n : ℕ) (many : n ≡ length l) (T : List ℕ) (full : length T ≡ 8 * room)
+    (n : ℕ) (many : n ≡ length l) (T : List ℕ) (full : length T ≡ tableauRoom)
     (here : (j : ℕ) → j < room → getD T (i * room + j) 0 ≡ getD l j 0)
     (others : (k j : ℕ) → k < 8 → (k ≡ i → ⊥) → j < room → getD T (k * room + j) 0 ≡ getD (b .tableau) (k * room + j) 0) where
-  pub becomes-column : Becomes (record { cells = b .cells; foundation = b .foundation; counts = set (b .counts) i n; tableau = T }) (put (shown b) (column i) l)
+  pub becomes-column : Becomes (laid (b .cells) (b .foundation) (set (b .counts) i n) T) (put (shown b) (column i) l)
   unfolding shown
   becomes-column =
       record {
@@ -121,36 +121,36 @@ module _ (b : Board) (g : GoodColumns (b .counts) (b .tableau)) (i : ℕ) (h : i
   abbrev col : List ℕ
   col = columnAt (b .counts) (b .tableau) i
 
-  abbrev laid : List ℕ
-  laid = set (b .tableau) (i * 52 + w) code
+  abbrev lain : List ℕ
+  lain = set (b .tableau) (i * room + w) code
 
   long : length (col ++ (code ∷ [])) ≡ w + 1
   long = length-append col (code ∷ []) ∙ (let n = column-length g i h in omega arith)
 
-  here-laid : (j : ℕ) → j < room → getD laid (i * room + j) 0 ≡ getD (col ++ (code ∷ [])) j 0
+  here-laid : (j : ℕ) → j < room → getD lain (i * room + j) 0 ≡ getD (col ++ (code ∷ [])) j 0
   here-laid j b0 = by-side (ℕ-discrete j w) (decLt j w)
     where
-      by-side : Dec (j ≡ w) → Dec (j < w) → getD laid (i * room + j) 0 ≡ getD (col ++ (code ∷ [])) j 0
+      by-side : Dec (j ≡ w) → Dec (j < w) → getD lain (i * room + j) 0 ≡ getD (col ++ (code ∷ [])) j 0
       by-side (yes q) d =
-          ap (λ (k : ℕ). getD laid (i * room + k) 0) q ∙ getD-set-same (b .tableau) (i * 52 + w) code 0 (let f = g .full in omega arith)
+          ap (λ (k : ℕ). getD lain (i * room + k) 0) q ∙ getD-set-same (b .tableau) (i * room + w) code 0 (let f = g .full in omega arith)
           ∙ sym (ap (λ (k : ℕ). getD (col ++ (code ∷ [])) k 0) (q ∙ e ∙ sym (column-length g i h)) ∙ getD-append-seam col code [] 0)
       by-side (no q) (yes d) =
-          getD-set-other (b .tableau) (i * 52 + w) (i * room + j) code 0 (λ z. q (let y : j ≡ w = omega arith in y))
+          getD-set-other (b .tableau) (i * room + w) (i * room + j) code 0 (λ z. q (let y : j ≡ w = omega arith in y))
           ∙ sym (List·getD-append col (code ∷ []) 0 j (let n = column-length g i h in omega arith) ∙ column-code (b .counts) (b .tableau) i j (omega arith))
       by-side (no q) (no d) =
-          getD-set-other (b .tableau) (i * 52 + w) (i * room + j) code 0 (λ z. q (let y : j ≡ w = omega arith in y))
+          getD-set-other (b .tableau) (i * room + w) (i * room + j) code 0 (λ z. q (let y : j ≡ w = omega arith in y))
           ∙ g .spare i j h (omega arith) b0
           ∙ sym (List·getD-eq-default (col ++ (code ∷ [])) 0 (let n = long in omega arith))
 
-  pub becomes-laid : Becomes (record { cells = b .cells; foundation = b .foundation; counts = set (b .counts) i (getD (b .counts) i 0 + 1); tableau = laid })
+  pub becomes-laid : Becomes (laid (b .cells) (b .foundation) (set (b .counts) i (getD (b .counts) i 0 + 1)) lain)
       (put (shown b) (column i) (there (shown b) (column i) ++ (code ∷ [])))
   becomes-laid =
-      subst (λ (c : List ℕ). Becomes (record { cells = b .cells; foundation = b .foundation; counts = set (b .counts) i (getD (b .counts) i 0 + 1); tableau = laid })
+      subst (λ (c : List ℕ). Becomes (laid (b .cells) (b .foundation) (set (b .counts) i (getD (b .counts) i 0 + 1)) lain)
       (put (shown b) (column i) (c ++ (code ∷ []))))
       (shown-column b i h)
       (becomes-column b g i h (col ++ (code ∷ [])) (let n = long in omega arith) (all-append isCard col (code ∷ []) ∙ both column-cards (one-card code isc))
-      (getD (b .counts) i 0 + 1) (let n = long in omega arith) laid (length-set (b .tableau) (i * 52 + w) code ∙ g .full) here-laid
-      (λ k j c d f. getD-set-other (b .tableau) (i * 52 + w) (k * room + j) code 0 (λ z. d (let y : k ≡ i = omega arith in y))))
+      (getD (b .counts) i 0 + 1) (let n = long in omega arith) lain (length-set (b .tableau) (i * room + w) code ∙ g .full) here-laid
+      (λ k j c d f. getD-set-other (b .tableau) (i * room + w) (k * room + j) code 0 (λ z. d (let y : k ≡ i = omega arith in y))))
     where
       column-cards : all isCard col ≡ true
       column-cards = all-by isCard col (λ j m. let n = column-length g i h in
@@ -209,7 +209,7 @@ column-cards {counts} {tableau} g i h =
     subst (λ (x : ℕ). isCard x ≡ true) (sym (column-code counts tableau i j (omega arith))) (g .codes i j h (omega arith)))
 
 module _ (b : Board) (g : GoodColumns (b .counts) (b .tableau)) (i : ℕ) (h : i < 8) (n : ℕ) (enough : n ≤ getD (b .counts) i 0)
-    (w : ℕ) (e : w ≡ getD (b .counts) i 0) (T : List ℕ) (c : Cleared (b .tableau) T (i * 52 + (w - n)) n) where
+    (w : ℕ) (e : w ≡ getD (b .counts) i 0) (T : List ℕ) (c : Cleared (b .tableau) T (i * room + (w - n)) n) where
   abbrev col′ : List ℕ
   col′ = columnAt (b .counts) (b .tableau) i
 
@@ -226,7 +226,7 @@ module _ (b : Board) (g : GoodColumns (b .counts) (b .tableau)) (i : ℕ) (h : i
           c .below (i * room + j) (omega arith)
           ∙ sym (getD-take (length col′ - n) col′ j 0 (let m = column-length g i h in omega arith) ∙ column-code (b .counts) (b .tableau) i j (omega arith))
       by-side (no l) (yes d) =
-          ap (λ (p : ℕ). getD T p 0) (let q : i * room + j ≡ i * 52 + (w - n) + (j - (w - n)) = omega arith in q)
+          ap (λ (p : ℕ). getD T p 0) (let q : i * room + j ≡ i * room + (w - n) + (j - (w - n)) = omega arith in q)
           ∙ c .zero (j - (w - n)) (omega arith)
           ∙ sym (List·getD-eq-default (take (length col′ - n) col′) 0 (let o = length-take (length col′ - n) col′ in let m = column-length g i h in omega arith))
       by-side (no l) (no d) =
@@ -246,10 +246,10 @@ module _ (b : Board) (g : GoodColumns (b .counts) (b .tableau)) (i : ℕ) (h : i
       first (all isCard (take (length col′ - n) col′)) (all isCard (drop (length col′ - n) col′))
       (sym (all-append isCard (take (length col′ - n) col′) (drop (length col′ - n) col′)) ∙ ap (all isCard) (take-append-drop (length col′ - n) col′) ∙ column-cards g i h)
 
-  pub becomes-dropped : Becomes (record { cells = b .cells; foundation = b .foundation; counts = set (b .counts) i (w - n); tableau = T })
+  pub becomes-dropped : Becomes (laid (b .cells) (b .foundation) (set (b .counts) i (w - n)) T)
       (put (shown b) (column i) (othersOf n (there (shown b) (column i))))
   becomes-dropped =
-      subst (λ (l : List ℕ). Becomes (record { cells = b .cells; foundation = b .foundation; counts = set (b .counts) i (w - n); tableau = T })
+      subst (λ (l : List ℕ). Becomes (laid (b .cells) (b .foundation) (set (b .counts) i (w - n)) T)
       (put (shown b) (column i) (othersOf n l)))
       (shown-column b i h)
       (becomes-column b g i h (othersOf n col′) (let o = others-long in let m = g .within i h in omega arith) others-cards (w - n) (sym others-long) T
@@ -259,7 +259,7 @@ module _ (b : Board) (g : GoodColumns (b .counts) (b .tableau)) (i : ℕ) (h : i
 
 module _ (b : Board) (g : GoodColumns (b .counts) (b .tableau)) (s d : ℕ) (hs : s < 8) (hd : d < 8) (n : ℕ) (enough : n ≤ getD (b .counts) s 0)
     (fits : getD (b .counts) d 0 + n ≤ 52) (v : ℕ) (ev : v ≡ getD (b .counts) s 0) (w : ℕ) (ew : w ≡ getD (b .counts) d 0)
-    (T : List ℕ) (c : Copied (b .tableau) T (s * 52 + (v - n)) (d * 52 + w) n) where
+    (T : List ℕ) (c : Copied (b .tableau) T (s * room + (v - n)) (d * room + w) n) where
   abbrev source : List ℕ
   source = columnAt (b .counts) (b .tableau) s
 
@@ -273,13 +273,13 @@ module _ (b : Board) (g : GoodColumns (b .counts) (b .tableau)) (s d : ℕ) (hs 
   both-long : length (target ++ lastOf n source) ≡ w + n
   both-long = length-append target (lastOf n source) ∙ (let r = run-long in let l = column-length g d hd in omega arith)
 
-  run-code : (k : ℕ) → k < n → getD (lastOf n source) k 0 ≡ getD (b .tableau) (s * 52 + (v - n) + k) 0
+  run-code : (k : ℕ) → k < n → getD (lastOf n source) k 0 ≡ getD (b .tableau) (s * room + (v - n) + k) 0
   unfolding lastOf
   run-code k l =
       let m = column-length g s hs in
       getD-drop (length source - n) source k 0
       ∙ column-code (b .counts) (b .tableau) s (length source - n + k) (omega arith)
-      ∙ ap (λ (p : ℕ). getD (b .tableau) p 0) (let q : s * room + (length source - n + k) ≡ s * 52 + (v - n) + k = omega arith in q)
+      ∙ ap (λ (p : ℕ). getD (b .tableau) p 0) (let q : s * room + (length source - n + k) ≡ s * room + (v - n) + k = omega arith in q)
 
   here-run : (j : ℕ) → j < room → getD T (d * room + j) 0 ≡ getD (target ++ lastOf n source) j 0
   here-run j b0 = by-side (decLt j w) (decLt j (w + n))
@@ -290,7 +290,7 @@ module _ (b : Board) (g : GoodColumns (b .counts) (b .tableau)) (s d : ℕ) (hs 
           ∙ sym (List·getD-append target (lastOf n source) 0 j (let m = column-length g d hd in omega arith) ∙ column-code (b .counts) (b .tableau) d j (omega arith))
       by-side (no l) (yes a) =
           let m = column-length g d hd in
-          ap (λ (p : ℕ). getD T p 0) (let q : d * room + j ≡ d * 52 + w + (j - w) = omega arith in q)
+          ap (λ (p : ℕ). getD T p 0) (let q : d * room + j ≡ d * room + w + (j - w) = omega arith in q)
           ∙ c .same (j - w) (omega arith) ∙ sym (run-code (j - w) (omega arith))
           ∙ sym (ap (λ (p : ℕ). getD (target ++ lastOf n source) p 0) (let q : j ≡ length target + (j - w) = omega arith in q)
           ∙ getD-append-add target (lastOf n source) (j - w) 0)
@@ -311,13 +311,13 @@ module _ (b : Board) (g : GoodColumns (b .counts) (b .tableau)) (s d : ℕ) (hs 
       second (all isCard (take (length source - n) source)) (all isCard (drop (length source - n) source))
       (sym (all-append isCard (take (length source - n) source) (drop (length source - n) source)) ∙ ap (all isCard) (take-append-drop (length source - n) source) ∙ column-cards g s hs)
 
-  pub becomes-run : Becomes (record { cells = b .cells; foundation = b .foundation; counts = set (b .counts) d (w + n); tableau = T })
+  pub becomes-run : Becomes (laid (b .cells) (b .foundation) (set (b .counts) d (w + n)) T)
       (put (shown b) (column d) (there (shown b) (column d) ++ lastOf n (there (shown b) (column s))))
   becomes-run =
-      subst (λ (l : List ℕ). Becomes (record { cells = b .cells; foundation = b .foundation; counts = set (b .counts) d (w + n); tableau = T })
+      subst (λ (l : List ℕ). Becomes (laid (b .cells) (b .foundation) (set (b .counts) d (w + n)) T)
       (put (shown b) (column d) (l ++ lastOf n (there (shown b) (column s)))))
       (shown-column b d hd)
-      (subst (λ (l : List ℕ). Becomes (record { cells = b .cells; foundation = b .foundation; counts = set (b .counts) d (w + n); tableau = T })
+      (subst (λ (l : List ℕ). Becomes (laid (b .cells) (b .foundation) (set (b .counts) d (w + n)) T)
       (put (shown b) (column d) (target ++ lastOf n l)))
       (shown-column b s hs)
       (becomes-column b g d hd (target ++ lastOf n source) (let o = both-long in omega arith)
@@ -328,13 +328,13 @@ module _ (b : Board) (g : GoodColumns (b .counts) (b .tableau)) (s d : ℕ) (hs 
 
 module _ (b : Board) (g : GoodColumns (b .counts) (b .tableau)) where
   pub becomes-cell : (i code : ℕ) (l : List ℕ) → code ≡ cellCode l
-      → Becomes (record { cells = set (b .cells) i code; foundation = b .foundation; counts = b .counts; tableau = b .tableau }) (put (shown b) (cell i) l)
+      → Becomes (laid (set (b .cells) i code) (b .foundation) (b .counts) (b .tableau)) (put (shown b) (cell i) l)
   unfolding shown
   becomes-cell i code l e =
       record { shows = ap (λ (x : ℕ). record { cells = set (b .cells) i x; foundation = b .foundation; columns = listed 8 (columnAt (b .counts) (b .tableau)) }) e; good = g }
 
   pub becomes-home : (s n : ℕ) {F : List ℕ} → F ≡ set (b .foundation) s n → (l : List ℕ) → n ≡ length l
-      → Becomes (record { cells = b .cells; foundation = F; counts = b .counts; tableau = b .tableau }) (put (shown b) (home s) l)
+      → Becomes (laid (b .cells) F (b .counts) (b .tableau)) (put (shown b) (home s) l)
   unfolding shown
   becomes-home s n f l e =
       record {

@@ -9,12 +9,12 @@ use borrow.Author.Tests.{le-leb, lt-leb, ne-eqb}
 use lib.Dec.{eqb, leb}
 use lib.ListN.{length, getD}
 use lib.Seq.{getD-drop}
-use Rattle.card.specs.Words.{listed}
+use Rattle.base.specs.Words.{listed}
 use Rattle.card.specs.Card.{isCard}
-use Rattle.card.proofs.Words.{first-fails, length-listed, getD-listed}
+use Rattle.base.proofs.Words.{first-fails, length-listed, getD-listed}
 use Rattle.card.proofs.Codes.{card-is}
 use Rattle.board.specs.Table.{pile, held}
-use Rattle.board.specs.Record.{columnAt, shown}
+use Rattle.board.specs.Record.{columnAt, shown, room}
 use Rattle.board.specs.Inner.{GoodColumns}
 use Rattle.board.specs.declared.Board.{Board}
 use Rattle.board.proofs.Tables.{cell-empty, cell-card}
@@ -38,7 +38,7 @@ module _ {counts tableau : List ℕ} (g : GoodColumns counts tableau) (i w x : �
   pub column-none : w ≡ 0 → false ≡ endsIn (columnAt counts tableau i) x
   column-none q = sym (ends-none (columnAt counts tableau i) x (column-length g i h ∙ sym e ∙ q))
 
-  pub column-some : (w ≡ 0 → ⊥) → eqb (getD tableau (i * 52 + (w - 1)) 0) x ≡ endsIn (columnAt counts tableau i) x
+  pub column-some : (w ≡ 0 → ⊥) → eqb (getD tableau (i * room + (w - 1)) 0) x ≡ endsIn (columnAt counts tableau i) x
   column-some d =
       sym
       (ends-some (columnAt counts tableau i) x (w - 1) (let n = column-length g i h in omega arith)

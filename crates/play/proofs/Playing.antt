@@ -9,13 +9,13 @@ use borrow.Author.Tests.{eqb-true, eqb-false, ltb-true, not-true}
 use lib.Dec.{eqb, leb}
 use lib.ListN.{length, getD, length-set, length-append, length-drop, length-take}
 use lib.Seq.{getD-set-other, getD-set-same, set-comm}
-use Rattle.card.specs.Words.{listed}
+use Rattle.base.specs.Words.{listed}
 use Rattle.card.specs.Card.{isCard, isValue, codeOf}
 use Rattle.card.specs.declared.Card.{Card}
 use Rattle.card.specs.Suit.{suitNumber}
 use Rattle.card.specs.declared.Suit.{Suit}
 use Rattle.card.proofs.Codes.{code-is-card}
-use Rattle.card.proofs.Words.{first, second, length-listed}
+use Rattle.base.proofs.Words.{first, second, length-listed}
 use Rattle.board.specs.Table.{Table, pile, held}
 use Rattle.board.specs.Record.{room, shown}
 use Rattle.board.specs.Inner.{GoodColumns}

@@ -8,17 +8,17 @@ use borrow.Author.Tests.{eq-eqb, ne-eqb, le-leb, lt-leb, ltb-true}
 use lib.Dec.{leb}
 use lib.ListN.{length, getD}
 use lib.Seq.{getD-drop}
-use Rattle.card.specs.Words.{listed}
+use Rattle.base.specs.Words.{listed}
 use Rattle.card.specs.Card.{codeOf}
 use Rattle.card.specs.declared.Card.{Card}
-use Rattle.card.proofs.Words.{first-fails, second-fails}
-use Rattle.board.specs.Record.{columnAt, shown}
+use Rattle.base.proofs.Words.{first-fails, second-fails}
+use Rattle.board.specs.Record.{columnAt, shown, room}
 use Rattle.board.specs.Inner.{Sound}
 use Rattle.board.specs.declared.Board.{Board}
 use Rattle.board.proofs.Soundness.{column-code}
 use Rattle.questions.proofs.Asking.{shown-column, shown-columns, shown-cells}
 use Rattle.rules.specs.Fit.{fitsOn}
-use Rattle.rules.specs.Run.{isRun, runLength}
+use Rattle.runs.specs.Run.{isRun, runLength}
 use Rattle.rules.specs.Limit.{mostMoved}
 use Rattle.rules.proofs.Laying.{run-top}
 use Rattle.moves.specs.Move.{column, sayable}
@@ -48,7 +48,7 @@ module _ (b : Board) (s d n : ℕ) (c : Card) (sound : Sound b) (said : sayable 
 
     -- the deepest card of the hand
     module _ (enough : n ≤ w) where
-      pub deepest : getD (hand (shown b) (TableauToTableau s d n c)) 0 0 ≡ getD (b .tableau) (s * 52 + (w - n)) 0
+      pub deepest : getD (hand (shown b) (TableauToTableau s d n c)) 0 0 ≡ getD (b .tableau) (s * room + (w - n)) 0
       unfolding hand lastOf
       deepest =
           let l = lie in
@@ -58,10 +58,10 @@ module _ (b : Board) (s d n : ℕ) (c : Card) (sound : Sound b) (said : sayable 
           ∙ ap (λ (col : List ℕ). getD col (w - n) 0) (sym (shown-column b s source))
           ∙ column-code (b .counts) (b .tableau) s (w - n) (omega arith)
 
-      pub other-card : {x : ℕ} → x ≡ codeOf c → (getD (b .tableau) (s * 52 + (w - n)) 0 ≡ x → ⊥) → false ≡ allowed (shown b) (TableauToTableau s d n c)
+      pub other-card : {x : ℕ} → x ≡ codeOf c → (getD (b .tableau) (s * room + (w - n)) 0 ≡ x → ⊥) → false ≡ allowed (shown b) (TableauToTableau s d n c)
       other-card q f = sym (deny-named (shown b) (TableauToTableau s d n c) (λ z. f (sym deepest ∙ z ∙ sym q)))
 
-      module _ (other : s ≡ d → ⊥) {x : ℕ} (code : x ≡ codeOf c) (named : getD (b .tableau) (s * 52 + (w - n)) 0 ≡ x) where
+      module _ (other : s ≡ d → ⊥) {x : ℕ} (code : x ≡ codeOf c) (named : getD (b .tableau) (s * room + (w - n)) 0 ≡ x) where
         rest : allowed (shown b) (TableauToTableau s d n c)
             ≡ (leb n (mostMoved (shown b .cells) (shown b .columns) d)
             && (isRun (hand (shown b) (TableauToTableau s d n c)) && takes (shown b) (column d) (codeOf c)))

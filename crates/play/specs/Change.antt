@@ -4,7 +4,7 @@ use mathlib.Core.List.{List, [], _∷_, _++_}
 use Prim.Native.Nat.{ℕ, _+_, _≤_, _<_}
 use lib.ListN.{length, getD}
 use Rattle.board.specs.Table.{Table}
-use Rattle.board.specs.Record.{shown}
+use Rattle.board.specs.Record.{shown, laid}
 use Rattle.board.specs.Inner.{GoodColumns, Sound}
 use Rattle.board.specs.declared.Board.{Board}
 use Rattle.moves.specs.Move.{column, sayable}
@@ -38,9 +38,9 @@ pub record Copied (old new : List ℕ) (from to n : ℕ) : Type 0 where
 -- one column of a board is other cards now, whatever lies in its cells and on its foundations
 pub record Changes (counts tableau newCounts newTableau : List ℕ) (i : ℕ) (cards : Table → List ℕ) : Type 0 where
   pub becomes : (cells foundation : List ℕ)
-      → Becomes (record { cells = cells; foundation = foundation; counts = newCounts; tableau = newTableau })
-      (put (shown (record { cells = cells; foundation = foundation; counts = counts; tableau = tableau })) (column i)
-      (cards (shown (record { cells = cells; foundation = foundation; counts = counts; tableau = tableau }))))
+      → Becomes (laid cells foundation newCounts newTableau)
+      (put (shown (laid cells foundation counts tableau)) (column i)
+      (cards (shown (laid cells foundation counts tableau))))
 
 -- one card more lies on column i
 abbrev pub Lays : List ℕ → List ℕ → List ℕ → List ℕ → ℕ → ℕ → Type 0

@@ -14,21 +14,23 @@ ghost use Rattle.moves.specs.Move.{from, to, count, card, sayable};
 ghost use Rattle.moves.specs.declared.Move.the-variants.{TableauToTableau};
 ghost use Rattle.moves.specs.Play.{there, elsewhere, withinLimit, endsIn, takes, allowed};
 use board::Board;
+use board::CODES;
+use board::ROOM;
 use card::Card;
 use card::Suit;
 use moves::Move;
 
 // The top of a column is this card.
-fn column_ends_in<'a>(counts: &'a [u8; 8], tableau: &'a [u8; 416], i: usize, code: u8) -> bool
+fn column_ends_in<'a>(counts: &'a [u8; 8], tableau: &'a [u8; CODES], i: usize, code: u8) -> bool
     requires { ⌜ GoodColumns (now counts) (now tableau) ⌝ }
     requires { ⌜ i < 8 ⌝ }
     ensures { λ r. ⌜ r ≡ endsIn (columnAt (now (counts .entry)) (now (tableau .entry)) i) code ⌝ }
 {
-    let count = card::wide(counts[i]);
+    let count = base::wide(counts[i]);
     if count == 0 {
         return false;
     }
-    let first = i * 52;
+    let first = i * ROOM;
     let last = first + (count - 1);
     tableau[last] == code
 }
@@ -49,7 +51,7 @@ fn home_ends_in(foundation: &[u8; 4], suit: Suit, code: u8) -> bool
     ensures { λ r. ⌜ r ≡ endsIn (pile (suitNumber suit) (getD (now (foundation .entry)) (suitNumber suit) 0)) code ⌝ }
 {
     let s = suit.number();
-    let count = foundation[card::wide(s)];
+    let count = foundation[base::wide(s)];
     if count == 0 {
         return false;
     }
@@ -143,11 +145,11 @@ fn run_allowed(b: Board, source: usize, destination: usize, count: usize, card: 
     if source == destination {
         return false;
     }
-    let lie = card::wide(b.counts[source]);
+    let lie = base::wide(b.counts[source]);
     if lie < count {
         return false;
     }
-    let first = source * 52;
+    let first = source * ROOM;
     let deepest = first + (lie - count);
     let code = card::code_of(card);
     if b.tableau[deepest] != code {

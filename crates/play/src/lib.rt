@@ -5,7 +5,7 @@ ghost use Prim.Native.Nat.{_+_, _-_, _≤_, _<_};
 ghost use lib.ListN.{length, getD, set};
 ghost use Rattle.card.specs.Card.{isCard};
 ghost use Rattle.card.specs.Suit.{suitNumber};
-ghost use Rattle.board.specs.Record.{shown};
+ghost use Rattle.board.specs.Record.{shown, laid, room, tableauRoom};
 ghost use Rattle.board.specs.Inner.{GoodColumns, GoodPiles};
 ghost use Rattle.moves.specs.Play.{afterMove};
 ghost use Rattle.play.specs.Change.{Becomes, Cleared, Apart, Copied, Lays, Drops, Doubles, Ready};
@@ -13,29 +13,31 @@ ghost use Rattle.play.specs.Change.{Becomes, Cleared, Apart, Copied, Lay
 pub mod allow;
 
 use board::Board;
+use board::CODES;
+use board::ROOM;
 use card::Card;
 use card::Suit;
 use moves::Move;
 
 // One card more on a column.
-fn lay(counts: &mut [u8; 8], tableau: &mut [u8; 416], i: usize, code: u8)
+fn lay(counts: &mut [u8; 8], tableau: &mut [u8; CODES], i: usize, code: u8)
     requires { ⌜ GoodColumns (now counts) (now tableau) ⌝ }
     requires { ⌜ i < 8 ⌝ }
-    requires { ⌜ getD (now counts) i 0 < 52 ⌝ }
+    requires { ⌜ getD (now counts) i 0 < room ⌝ }
     requires { ⌜ isCard code ≡ true ⌝ }
     ensures { λ r. ⌜ Lays (now (counts .entry)) (now (tableau .entry)) (now (counts .exit)) (now (tableau .exit)) i code ⌝ }
 {
     let count = counts[i];
-    let first = i * 52;
-    let at = first + card::wide(count);
+    let first = i * ROOM;
+    let at = first + base::wide(count);
     tableau[at] = code;
     counts[i] = count + 1;
 }
 
 // Zero n places from `at`.
-fn clear(tableau: &mut [u8; 416], at: usize, n: usize)
-    requires { ⌜ length (now tableau) ≡ 416 ⌝ }
-    requires { ⌜ at + n ≤ 416 ⌝ }
+fn clear(tableau: &mut [u8; CODES], at: usize, n: usize)
+    requires { ⌜ length (now tableau) ≡ tableauRoom ⌝ }
+    requires { ⌜ at + n ≤ tableauRoom ⌝ }
     ensures { λ r. ⌜ Cleared (now (tableau .entry)) (now (tableau .exit)) at n ⌝ }
 {
     let mut k = 0;
@@ -46,10 +48,10 @@ fn clear(tableau: &mut [u8; 416], at: usize, n: usize)
 }
 
 // Copy n places to others, which share none with them.
-fn copy(tableau: &mut [u8; 416], from: usize, to: usize, n: usize)
-    requires { ⌜ length (now tableau) ≡ 416 ⌝ }
-    requires { ⌜ from + n ≤ 416 ⌝ }
-    requires { ⌜ to + n ≤ 416 ⌝ }
+fn copy(tableau: &mut [u8; CODES], from: usize, to: usize, n: usize)
+    requires { ⌜ length (now tableau) ≡ tableauRoom ⌝ }
+    requires { ⌜ from + n ≤ tableauRoom ⌝ }
+    requires { ⌜ to + n ≤ tableauRoom ⌝ }
     requires { ⌜ Apart from to n ⌝ }
     ensures { λ r. ⌜ Copied (now (tableau .entry)) (now (tableau .exit)) from to n ⌝ }
 {
@@ -62,14 +64,14 @@ fn copy(tableau: &mut [u8; 416], from: usize, to: usize, n: usize)
 }
 
 // The top n cards of a column are gone.
-fn drop_top(counts: &mut [u8; 8], tableau: &mut [u8; 416], i: usize, n: usize)
+fn drop_top(counts: &mut [u8; 8], tableau: &mut [u8; CODES], i: usize, n: usize)
     requires { ⌜ GoodColumns (now counts) (now tableau) ⌝ }
     requires { ⌜ i < 8 ⌝ }
     requires { ⌜ n ≤ getD (now counts) i 0 ⌝ }
     ensures { λ r. ⌜ Drops (now (counts .entry)) (now (tableau .entry)) (now (counts .exit)) (now (tableau .exit)) i n ⌝ }
 {
-    let left = card::wide(counts[i]) - n;
-    let first = i * 52;
+    let left = base::wide(counts[i]) - n;
+    let first = i * ROOM;
     let at = first + left;
     clear(tableau, at, n);
     counts[i] = left as u8;
@@ -78,7 +80,7 @@ fn drop_top(counts: &mut [u8; 8], tableau: &mut [u8; 416], i: usize, n: usize)
 // The top n cards of a column, once more on another.
 fn put_run(
     counts: &mut [u8; 8],
-    tableau: &mut [u8; 416],
+    tableau: &mut [u8; CODES],
     source: usize,
     destination: usize,
     n: usize,
@@ -88,14 +90,14 @@ fn put_run(
     requires { ⌜ destination < 8 ⌝ }
     requires { ⌜ (source ≡ destination → ⊥) ⌝ }
     requires { ⌜ n ≤ getD (now counts) source 0 ⌝ }
-    requires { ⌜ getD (now counts) destination 0 + n ≤ 52 ⌝ }
+    requires { ⌜ getD (now counts) destination 0 + n ≤ room ⌝ }
     ensures { λ r. ⌜ Doubles (now (counts .entry)) (now (tableau .entry)) (now (counts .exit)) (now (tableau .exit)) source destination n ⌝ }
 {
-    let deepest = card::wide(counts[source]) - n;
-    let first = source * 52;
+    let deepest = base::wide(counts[source]) - n;
+    let first = source * ROOM;
     let from = first + deepest;
-    let count = card::wide(counts[destination]);
-    let start = destination * 52;
+    let count = base::wide(counts[destination]);
+    let start = destination * ROOM;
     let to = start + count;
     copy(tableau, from, to, n);
     let more = count + n;
@@ -108,7 +110,7 @@ fn go_home(foundation: &mut [u8; 4], card: Card)
     ensures { λ r. ⌜ now (foundation .exit) ≡ set (now (foundation .entry)) (suitNumber (card .suit)) (getD (now (foundation .entry)) (suitNumber (card .suit)) 0 + 1) ⌝ }
 {
     let suit = card.suit;
-    let s = card::wide(suit.number());
+    let s = base::wide(suit.number());
     let n = foundation[s];
     foundation[s] = n + 1;
 }
@@ -119,7 +121,7 @@ fn leave_home(foundation: &mut [u8; 4], suit: Suit)
     requires { ⌜ 1 ≤ getD (now foundation) (suitNumber suit) 0 ⌝ }
     ensures { λ r. ⌜ now (foundation .exit) ≡ set (now (foundation .entry)) (suitNumber suit) (getD (now (foundation .entry)) (suitNumber suit) 0 - 1) ⌝ }
 {
-    let s = card::wide(suit.number());
+    let s = base::wide(suit.number());
     let n = foundation[s];
     foundation[s] = n - 1;
 }
@@ -130,10 +132,10 @@ pub fn apply_to(
     cells: &mut [u8; 4],
     foundation: &mut [u8; 4],
     counts: &mut [u8; 8],
-    tableau: &mut [u8; 416],
+    tableau: &mut [u8; CODES],
 )
-    requires { ⌜ Ready (record { cells = now cells; foundation = now foundation; counts = now counts; tableau = now tableau }) m ⌝ }
-    ensures { λ r. ⌜ Becomes (record { cells = now (cells .exit); foundation = now (foundation .exit); counts = now (counts .exit); tableau = now (tableau .exit) }) (afterMove (shown (record { cells = now (cells .entry); foundation = now (foundation .entry); counts = now (counts .entry); tableau = now (tableau .entry) })) m) ⌝ }
+    requires { ⌜ Ready (laid (now cells) (now foundation) (now counts) (now tableau)) m ⌝ }
+    ensures { λ r. ⌜ Becomes (laid (now (cells .exit)) (now (foundation .exit)) (now (counts .exit)) (now (tableau .exit))) (afterMove (shown (laid (now (cells .entry)) (now (foundation .entry)) (now (counts .entry)) (now (tableau .entry)))) m) ⌝ }
 {
     match m {
         Move::TableauToTableau {

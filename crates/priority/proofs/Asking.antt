@@ -3,7 +3,7 @@ use mathlib.Core.Path.{_≡_, sym, ap, _∙_}
 use mathlib.Core.Bool.{Bool}
 use mathlib.Core.List.{List}
 use Prim.Native.Nat.{ℕ}
-use Rattle.card.specs.Answer.{given, refused, unless}
+use Rattle.base.specs.Answer.{given, refused, unless}
 use Rattle.board.specs.Table.{Table}
 use Rattle.moves.specs.Record.{moveAsked, moveTold}
 use Rattle.moves.specs.Play.{allowed}

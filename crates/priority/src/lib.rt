@@ -11,7 +11,7 @@ ghost use Rattle.priority.specs.Priority.{baseAdds, baseTakes, priorityA
 use board::Board;
 use board::Examined;
 use board::Refusal;
-use board::judge::inspect;
+use board::verdict::inspect;
 use generate::Way;
 use moves::Decoded;
 use moves::Move;

@@ -7,13 +7,13 @@ use native.Mathlib.Omega.{arith}
 use lib.Dec.{eqb, ltb}
 use borrow.Author.Tests.{lt-ltb, le-ltb}
 use lib.ListN.{length, getD}
-use Rattle.card.specs.Words.{sum, listed}
-use Rattle.card.specs.Answer.{Answer, refused, unless}
+use Rattle.base.specs.Words.{sum, listed}
+use Rattle.base.specs.Answer.{Answer, refused, unless}
 use Rattle.card.specs.Card.{cardOf}
-use Rattle.card.proofs.Words.{getD-listed}
-use Rattle.card.proofs.Sums.{sum-same}
-use Rattle.board.specs.Judged.{Verdict, fine, after}
-use Rattle.board.specs.Record.{columnAt, shown}
+use Rattle.base.proofs.Words.{getD-listed}
+use Rattle.base.proofs.Sums.{sum-same}
+use Rattle.board.specs.Verdict.{Verdict, fine, after}
+use Rattle.board.specs.Record.{columnAt, shown, room}
 use Rattle.board.specs.Refusal.{numberOf, examinedTold}
 use Rattle.questions.specs.Questions.{topOf, emptyCells, emptyColumns}
 use Rattle.board.specs.Inner.{GoodColumns}
@@ -83,7 +83,7 @@ module _ {counts tableau : List ℕ} (g : GoodColumns counts tableau) (i w : ℕ
   pub no-top : w ≡ 0 → Empty ≡ topOf (columnAt counts tableau i)
   no-top q = sym (top-none (columnAt counts tableau i) (column-length g i h ∙ sym e ∙ q))
 
-  pub a-top : (w ≡ 0 → ⊥) → Is (cardOf (getD tableau (i * 52 + (w - 1)) 0)) ≡ topOf (columnAt counts tableau i)
+  pub a-top : (w ≡ 0 → ⊥) → Is (cardOf (getD tableau (i * room + (w - 1)) 0)) ≡ topOf (columnAt counts tableau i)
   a-top q =
       sym
       (top-some (columnAt counts tableau i) (w - 1) (let n = column-length g i h in omega arith)

@@ -2,7 +2,7 @@
 use mathlib.Core.List.{List}
 use Prim.Native.Nat.{ℕ, _≤_}
 use native.Mathlib.Omega.{arith}
-use Rattle.card.specs.Words.{sum}
+use Rattle.base.specs.Words.{sum}
 use Rattle.board.specs.Inner.{GoodPiles}
 use Rattle.questions.specs.Questions.{homeCount}
 

@@ -2,8 +2,8 @@
 use mathlib.Core.Path.{_≡_, refl, ap}
 use mathlib.Core.Bool.{Bool, true, false}
 use Prim.Native.Nat.{ℕ}
-use Rattle.card.specs.Answer.{Answer, given, refused}
-use Rattle.card.proofs.Unique.{told-once}
+use Rattle.base.specs.Answer.{Answer, given, refused}
+use Rattle.base.proofs.Unique.{told-once}
 use Rattle.board.proofs.Unique.{whyOf, why-law}
 use Rattle.questions.specs.Told.{topTold, countTold, wonTold}
 use Rattle.questions.specs.declared.Top.{Top}

@@ -4,10 +4,10 @@ use mathlib.Core.List.{List, [], _∷_}
 use Prim.Native.Nat.{ℕ}
 use lib.ListN.{length, getD}
 use lib.Dec.{eqb, ltb}
-use Rattle.card.specs.Words.{every, sum}
-use Rattle.card.specs.Answer.{Answer, given, unless}
+use Rattle.base.specs.Words.{every, sum}
+use Rattle.base.specs.Answer.{Answer, given, unless}
 use Rattle.card.specs.Card.{cardOf}
-use Rattle.board.specs.Judged.{after}
+use Rattle.board.specs.Verdict.{after}
 use Rattle.board.specs.Record.{examined, shown}
 use Rattle.board.specs.declared.Board.{Board}
 use Rattle.questions.specs.declared.Top.{Top}

@@ -1,7 +1,7 @@
 -- What each case of an answer means: the value asked for, or SCOPE.md's number.
 use mathlib.Core.Bool.{Bool, true, false}
 use Prim.Native.Nat.{ℕ}
-use Rattle.card.specs.Answer.{Answer, given, refused}
+use Rattle.base.specs.Answer.{Answer, given, refused}
 use Rattle.board.specs.Refusal.{numberOf}
 use Rattle.questions.specs.declared.Top.{Top}
 use Rattle.questions.specs.declared.TopAnswer.{TopAnswer}

@@ -6,16 +6,18 @@ ghost use mathlib.Core.Bool.{cond};
 ghost use Prim.Native.Nat.{_<_};
 ghost use lib.Dec.{eqb};
 ghost use lib.ListN.{length, getD};
-ghost use Rattle.card.specs.Words.{sum, listed};
+ghost use Rattle.base.specs.Words.{sum, listed};
 ghost use Rattle.board.specs.Record.{columnAt};
 ghost use Rattle.questions.specs.Told.{topTold, countTold, wonTold};
 ghost use Rattle.questions.specs.Questions.{topOf, cellOf, homeCount, emptyCells, emptyColumns, wonOn};
 ghost use Rattle.questions.specs.Questions.{topAsked, cellAsked, foundationAsked, homeAsked, emptyCellsAsked, emptyColumnsAsked, wonAsked};
 ghost use Rattle.board.specs.Inner.{GoodCells, GoodPiles, GoodColumns};
 use board::Board;
+use board::CODES;
 use board::Examined;
+use board::ROOM;
 use board::Refusal;
-use board::judge::inspect;
+use board::verdict::inspect;
 use card::Card;
 
 // The top of a column, or what a cell shows: the Rust's `Option<Card>`.
@@ -41,16 +43,16 @@ pub enum WonAnswer {
 }
 
 // The top card of a column.
-pub fn top_at<'a>(counts: &'a [u8; 8], tableau: &'a [u8; 416], i: usize) -> Top
+pub fn top_at<'a>(counts: &'a [u8; 8], tableau: &'a [u8; CODES], i: usize) -> Top
     requires { ⌜ GoodColumns (now counts) (now tableau) ⌝ }
     requires { ⌜ i < 8 ⌝ }
     ensures { λ r. ⌜ r ≡ topOf (columnAt (now (counts .entry)) (now (tableau .entry)) i) ⌝ }
 {
-    let count = card::wide(counts[i]);
+    let count = base::wide(counts[i]);
     if count == 0 {
         return Top::Empty;
     }
-    let first = i * 52;
+    let first = i * ROOM;
     let last = first + (count - 1);
     Top::Is(card::card_of(tableau[last]))
 }
@@ -74,7 +76,7 @@ pub fn foundation_at(foundation: &[u8; 4], s: usize) -> usize
     requires { ⌜ s < 4 ⌝ }
     ensures { λ r. ⌜ r ≡ getD (now (foundation .entry)) s 0 ⌝ }
 {
-    card::wide(foundation[s])
+    base::wide(foundation[s])
 }
 
 // How many cards are home.
@@ -85,7 +87,7 @@ pub fn total_at(foundation: &[u8; 4]) -> usize
     let mut total = 0;
     let mut s = 0;
     while s < 4 {
-        total += card::wide(foundation[s]);
+        total += base::wide(foundation[s]);
         s += 1;
     }
     total
@@ -115,7 +117,7 @@ pub fn empty_cells_at(cells: &[u8; 4]) -> usize
 }
 
 // How many columns are empty.
-pub fn empty_columns_at<'a>(counts: &'a [u8; 8], tableau: &'a [u8; 416]) -> usize
+pub fn empty_columns_at<'a>(counts: &'a [u8; 8], tableau: &'a [u8; CODES]) -> usize
     requires { ⌜ GoodColumns (now counts) (now tableau) ⌝ }
     ensures { λ r. ⌜ r ≡ emptyColumns (listed 8 (columnAt (now (counts .entry)) (now (tableau .entry)))) ⌝ }
 {

@@ -8,9 +8,9 @@ use borrow.Author.Tests.{leb-true, eqb-true}
 use lib.Dec.{leb}
 use lib.ListN.{length, getD, take, drop, length-drop, length-append}
 use lib.Seq.{getD-take, getD-drop}
-use Rattle.card.specs.Words.{occurs}
-use Rattle.card.specs.Answer.{Answer, given, refused}
-use Rattle.card.proofs.Words.{first, second}
+use Rattle.base.specs.Words.{occurs}
+use Rattle.base.specs.Answer.{Answer, given, refused}
+use Rattle.base.proofs.Words.{first, second}
 use Rattle.board.specs.Table.{cardsOn}
 use Rattle.board.specs.Record.{shown, boardOf}
 use Rattle.board.specs.Inner.{Sound}

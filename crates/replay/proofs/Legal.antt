@@ -4,10 +4,10 @@ use mathlib.Core.Bool.{true}
 use mathlib.Core.List.{List, [], _∷_, _++_}
 use Prim.Native.Nat.{ℕ, suc}
 use lib.ListN.{length}
-use Rattle.card.specs.Words.{occurs}
-use Rattle.card.specs.Answer.{Answer, given}
+use Rattle.base.specs.Words.{occurs}
+use Rattle.base.specs.Answer.{Answer, given}
 use Rattle.board.specs.Table.{Table, cardsOn}
-use Rattle.board.specs.Judged.{fine}
+use Rattle.board.specs.Verdict.{fine}
 use Rattle.board.specs.Record.{shown, boardOf}
 use Rattle.board.specs.Inner.{Sound}
 use Rattle.board.specs.declared.Board.{Board}

@@ -5,10 +5,10 @@ use Prim.Native.Nat.{ℕ, zero, suc, _+_, _-_, _*_, _/_, _%_, _<_, _≤_}
 use native.Mathlib.Omega.{arith}
 use lib.ListN.{length, take, drop, length-drop, length-append}
 use lib.Seq.{drop-drop, take-append-le, drop-append-le}
-use Rattle.card.specs.Words.{listed}
-use Rattle.card.specs.Answer.{Answer, given, refused}
-use Rattle.card.proofs.Words.{listed-same}
-use Rattle.board.specs.Judged.{Verdict, fine}
+use Rattle.base.specs.Words.{listed}
+use Rattle.base.specs.Answer.{Answer, given, refused}
+use Rattle.base.proofs.Words.{listed-same}
+use Rattle.board.specs.Verdict.{Verdict, fine}
 use Rattle.board.specs.Refusal.{numberOf}
 use Rattle.board.specs.Inner.{Sound}
 use Rattle.board.specs.declared.Board.{Board}

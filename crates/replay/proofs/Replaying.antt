@@ -3,35 +3,31 @@ use mathlib.Core.Path.{_≡_, sym, ap, _∙_}
 use mathlib.Core.Bool.{Bool, true, false}
 use mathlib.Core.List.{List}
 use Prim.Native.Nat.{ℕ, _%_, _<_, _≤_}
-use native.Mathlib.Omega.{arith}
-use borrow.Author.Tests.{lt-leb, le-leb, eq-eqb, ne-eqb}
-use lib.Dec.{leb}
+use borrow.Author.Tests.{le-leb, eq-eqb, eqb-true}
+use lib.Dec.{eqb, leb}
 use lib.ListN.{length}
-use Rattle.card.specs.Answer.{unless}
-use Rattle.card.proofs.Words.{both, first-fails, second-fails}
-use Rattle.board.specs.Judged.{Verdict, fine, after}
+use Rattle.base.specs.Answer.{unless}
+use Rattle.base.proofs.Words.{both, second}
+use Rattle.board.specs.Verdict.{Verdict, fine, after}
 use Rattle.board.specs.Record.{examined}
 use Rattle.board.specs.Refusal.{numberOf, examinedTold}
 use Rattle.board.specs.declared.Board.{Board}
 use Rattle.board.specs.declared.Refusal.{Refusal}
 use Rattle.board.specs.declared.Examined.{Examined}
 use Rattle.board.specs.declared.Examined.the-variants.{WellFormed, Refused}
+use Rattle.moves.specs.Written.{listRoom}
 use Rattle.replay.specs.Line.{stopped, lineFrom, recordsIn, isLine, ifFine, replayed}
 
 -- ---- when some bytes are a list of moves
 
 module _ (bytes : List ℕ) where
-  pub too-long : 1000 < length bytes → isLine bytes ≡ false
+  pub a-line : length bytes ≤ listRoom → length bytes % 5 ≡ 0 → isLine bytes ≡ true
   unfolding isLine
-  too-long h = first-fails (leb (length bytes) 1000) _ (lt-leb (length bytes) 1000 h)
+  a-line h e = both (le-leb (length bytes) listRoom h) (eq-eqb (length bytes % 5) 0 e)
 
-  pub cut-short : 0 < length bytes % 5 → isLine bytes ≡ false
+  pub line-five : isLine bytes ≡ true → length bytes % 5 ≡ 0
   unfolding isLine
-  cut-short h = second-fails (leb (length bytes) 1000) _ (ne-eqb (length bytes % 5) 0 (λ q. let z : ⊥ = omega arith in z))
-
-  pub a-line : length bytes ≤ 1000 → length bytes % 5 ≡ 0 → isLine bytes ≡ true
-  unfolding isLine
-  a-line h e = both (le-leb (length bytes) 1000 h) (eq-eqb (length bytes % 5) 0 e)
+  line-five e = eqb-true (length bytes % 5) 0 (second (leb (length bytes) listRoom) (eqb (length bytes % 5) 0) e)
 
 -- ---- the refusals in their order
 

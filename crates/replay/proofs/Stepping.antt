@@ -4,10 +4,10 @@ use mathlib.Core.Bool.{Bool, true, false}
 use mathlib.Core.List.{List}
 use Prim.Native.Nat.{ℕ}
 use native.Mathlib.Omega.{arith}
-use Rattle.card.specs.Words.{occurs}
-use Rattle.card.specs.Answer.{Answer, given, refused, unless}
+use Rattle.base.specs.Words.{occurs}
+use Rattle.base.specs.Answer.{Answer, given, refused, unless}
 use Rattle.board.specs.Table.{Table, cardsOn}
-use Rattle.board.specs.Judged.{fine}
+use Rattle.board.specs.Verdict.{fine}
 use Rattle.board.specs.Record.{shown, boardOf}
 use Rattle.board.specs.Refusal.{numberOf, examinedTold}
 use Rattle.board.specs.Inner.{Sound}

@@ -1,7 +1,7 @@
 -- One move and replay allow one result only: what is said, the place, and every byte of the record beside it.
 use mathlib.Core.Path.{_≡_, sym, ap, ap₂, _∙_}
 use Prim.Native.Nat.{ℕ}
-use Rattle.card.specs.Answer.{Answer}
+use Rattle.base.specs.Answer.{Answer}
 use Rattle.board.specs.declared.Board.{Board}
 use Rattle.board.specs.declared.Examined.{Examined}
 use Rattle.board.proofs.Unique.{examined-once}

@@ -1,7 +1,7 @@
 -- What one move and replay hand back.
 use mathlib.Core.Path.{_≡_}
-use Rattle.card.specs.Answer.{Answer, given, refused}
-use Rattle.board.specs.Judged.{Verdict, fine}
+use Rattle.base.specs.Answer.{Answer, given, refused}
+use Rattle.board.specs.Verdict.{Verdict, fine}
 use Rattle.board.specs.Refusal.{examinedTold}
 use Rattle.board.specs.declared.Board.{Board}
 use Rattle.replay.specs.Line.{Ending}

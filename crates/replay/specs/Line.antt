@@ -4,12 +4,13 @@ use mathlib.Core.List.{List, [], _∷_}
 use Prim.Native.Nat.{ℕ, suc, _+_, _*_, _/_, _%_}
 use lib.Dec.{eqb, leb}
 use lib.ListN.{length, take, drop}
-use Rattle.card.specs.Words.{listed}
-use Rattle.card.specs.Answer.{Answer, given, refused, unless}
-use Rattle.board.specs.Judged.{Verdict, fine, after}
+use Rattle.base.specs.Words.{listed}
+use Rattle.base.specs.Answer.{Answer, given, refused, unless}
+use Rattle.board.specs.Verdict.{Verdict, fine, after}
 use Rattle.board.specs.Record.{examined}
 use Rattle.board.specs.declared.Board.{Board}
 use Rattle.replay.specs.Step.{stepped}
+use Rattle.moves.specs.Written.{listRoom}
 
 -- how a replay ends: fine or the first refusal, how many moves were played (so the place of the bad one), the board then
 pub record Ending : Type 0 where
@@ -41,7 +42,7 @@ recordsIn bytes = listed (length bytes / 5) (λ k. take 5 (drop (k * 5) bytes))
 
 -- a list of moves: at most 200 records and nothing after them
 unfoldable pub isLine : List ℕ → Bool
-isLine bytes = leb (length bytes) 1000 && eqb (length bytes % 5) 0
+isLine bytes = leb (length bytes) listRoom && eqb (length bytes % 5) 0
 
 -- on if all is fine, else stopped
 abbrev pub ifFine : Verdict → Board → Ending → Ending

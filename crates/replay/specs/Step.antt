@@ -1,9 +1,9 @@
 -- One move, said by its record, on a board: 30 for a record that is impossible or a move that is not allowed.
 use mathlib.Core.List.{List}
 use Prim.Native.Nat.{ℕ}
-use Rattle.card.specs.Answer.{Answer, given, refused}
+use Rattle.base.specs.Answer.{Answer, given, refused}
 use Rattle.board.specs.Table.{Table}
-use Rattle.board.specs.Judged.{after}
+use Rattle.board.specs.Verdict.{after}
 use Rattle.board.specs.Record.{examined, shown, boardOf}
 use Rattle.board.specs.declared.Board.{Board}
 use Rattle.moves.specs.Record.{moveAsked}

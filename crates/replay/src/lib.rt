@@ -8,13 +8,14 @@ ghost use Rattle.board.specs.Inner.{Sound};
 ghost use Rattle.moves.specs.Move.{sayable};
 ghost use Rattle.moves.specs.Play.{played};
 ghost use Rattle.replay.specs.Step.{recorded, stepped, moveMade};
-ghost use Rattle.replay.specs.Line.{lineFrom, recordsIn, replayed};
+ghost use Rattle.replay.specs.Line.{lineFrom, recordsIn, replayed, isLine};
 ghost use Rattle.replay.specs.Handed.{Moves, Ends};
 use board::Board;
 use board::Examined;
 use board::Refusal;
-use board::judge::inspect;
+use board::verdict::inspect;
 use moves::Decoded;
+use moves::LIST_ROOM;
 use moves::Move;
 
 // The board after a move, or the board before it beside a refusal.
@@ -109,6 +110,18 @@ pub fn replay_at(b: Board, bytes: &[u8]) -> Replayed
     }
 }
 
+// At most 200 records, and nothing after them.
+pub fn is_line(list: &[u8]) -> bool
+    ensures { λ r. ⌜ r ≡ isLine (now (list .entry)) ⌝ }
+{
+    let n = list.len();
+    if LIST_ROOM < n {
+        return false;
+    }
+    let over = n % 5;
+    over == 0
+}
+
 // 12 to 15, 31, 30 at the first bad move, or the board after all of them.
 pub fn replay(b: Board, bytes: &[u8]) -> Replayed
     ensures { λ r. ⌜ Ends (replayed b (now (bytes .entry))) r ⌝ }
@@ -120,21 +133,12 @@ pub fn replay(b: Board, bytes: &[u8]) -> Replayed
             board: b,
         };
     }
-    let n = bytes.len();
-    if 1000 < n {
-        return Replayed {
-            said: Examined::Refused(Refusal::WrongList),
-            moves: 0,
-            board: b,
-        };
+    if is_line(bytes) {
+        return replay_at(b, bytes);
     }
-    let over = n % 5;
-    if 0 < over {
-        return Replayed {
-            said: Examined::Refused(Refusal::WrongList),
-            moves: 0,
-            board: b,
-        };
+    Replayed {
+        said: Examined::Refused(Refusal::WrongList),
+        moves: 0,
+        board: b,
     }
-    replay_at(b, bytes)
 }

@@ -3,7 +3,7 @@ use mathlib.Core.Path.{_≡_, refl}
 use mathlib.Core.List.{List, [], _∷_}
 use Prim.Native.Nat.{ℕ}
 use Rattle.questions.specs.Questions.{emptyCells, emptyColumns}
-use Rattle.card.specs.Words.{sum}
+use Rattle.base.specs.Words.{sum}
 use Rattle.rules.specs.Limit.{usable, mostMoved}
 
 abbrev empty : List ℕ

@@ -1,6 +1,6 @@
 -- Laws of fit, run and limit: what the top of a column says, how a run grows and ends, how large the limit is.
 use mathlib.Core.Path.{_≡_, refl, sym, ap, _∙_, subst}
-use mathlib.Core.Bool.{Bool, true, false, cond, not, xor, Bool·beq, _&&_}
+use mathlib.Core.Bool.{Bool, true, false, cond, _&&_}
 use mathlib.Core.List.{List, [], _∷_}
 use Prim.Native.Nat.{ℕ, zero, suc, _+_, _-_, _*_, _/_, _%_, _^_, _<_, _≤_}
 use native.Mathlib.Nat.{le-of-suc-le-suc, le-trans, mul-le-mul-left, suc-mul}
@@ -10,18 +10,19 @@ use borrow.Author.Tests.{eq-eqb, ne-eqb, eqb-true, le-leb, lt-leb}
 use lib.Dec.{eqb, leb}
 use lib.ListN.{length, getD, drop}
 use lib.Pow.{pow-mono, pow-pos}
-use Rattle.card.specs.Words.{all, sum, listed}
+use Rattle.base.specs.Words.{all, sum, listed}
 use Rattle.card.specs.Card.{isCard}
-use Rattle.card.proofs.Words.{first, second, both, first-fails, second-fails, getD-listed}
-use Rattle.card.proofs.Sums.{sum-part, sum-ones}
+use Rattle.base.proofs.Words.{first, second, both, first-fails, second-fails, getD-listed}
+use Rattle.base.proofs.Sums.{sum-part, sum-ones}
 use Rattle.card.proofs.Codes.{card-is}
-use Rattle.board.specs.Record.{columnAt}
+use Rattle.board.specs.Record.{columnAt, room}
 use Rattle.board.specs.Inner.{GoodColumns}
 use Rattle.board.proofs.Bits.{bit-word}
 use Rattle.board.proofs.Soundness.{column-length, column-code}
 use Rattle.questions.specs.Questions.{emptyCells, emptyColumns}
-use Rattle.rules.specs.Fit.{red, follows, fitsOn}
-use Rattle.rules.specs.Run.{isRun, runLength}
+use Rattle.runs.specs.Follows.{follows}
+use Rattle.rules.specs.Fit.{fitsOn}
+use Rattle.runs.specs.Run.{isRun, runLength}
 use Rattle.rules.specs.Limit.{usable, mostMoved}
 
 one-at-most : (t : Bool) → cond t 1 0 ≤ 1
@@ -29,17 +30,6 @@ one-at-most true = omega arith
 one-at-most false = omega arith
 
 -- ---- fit
-
-pub differ : (a b : Bool) → not (Bool·beq a b) ≡ xor a b
-unfolding xor
-differ true true = refl
-differ true false = refl
-differ false true = refl
-differ false false = refl
-
-pub lies : (upper lower : ℕ) {a b : Bool} → upper / 16 ≡ lower / 16 + 1 → a ≡ red upper → b ≡ red lower → not (Bool·beq a b) ≡ follows upper lower
-unfolding follows
-lies upper lower {a} {b} e p q = rw (eq-eqb (upper / 16) (lower / 16 + 1) e, ← p, ← q) (differ a b)
 
 pub fits-none : (l : List ℕ) (x : ℕ) → length l ≡ 0 → fitsOn l x ≡ true
 unfolding fitsOn
@@ -144,12 +134,12 @@ module _ {counts tableau : List ℕ} (g : GoodColumns counts tableau) (i w run :
   col = columnAt counts tableau i
 
   abbrev under : ℕ
-  under = getD tableau (i * 52 + (w - run) - 1) 0
+  under = getD tableau (i * room + (w - run) - 1) 0
 
   abbrev deepest : ℕ
-  deepest = getD tableau (i * 52 + (w - run)) 0
+  deepest = getD tableau (i * room + (w - run)) 0
 
-  under-place : i * 52 + (w - run) - 1 ≡ i * 52 + (w - suc run)
+  under-place : i * room + (w - run) - 1 ≡ i * room + (w - suc run)
   under-place = omega arith
 
   -- both as cards of the column
@@ -158,7 +148,7 @@ module _ {counts tableau : List ℕ} (g : GoodColumns counts tableau) (i w run :
       ap (λ (p : ℕ). follows (getD tableau p 0) deepest) under-place
       ∙ ap (λ (x : ℕ). follows x deepest) (sym (column-code counts tableau i (w - suc run) (omega arith)))
       ∙ ap (follows (getD col (w - suc run) 0))
-      (ap (λ (k : ℕ). getD tableau (i * 52 + k) 0) next ∙ sym (column-code counts tableau i (suc (w - suc run)) (omega arith)))
+      (ap (λ (k : ℕ). getD tableau (i * room + k) 0) next ∙ sym (column-code counts tableau i (suc (w - suc run)) (omega arith)))
     where
       next : w - run ≡ suc (w - suc run)
       next = omega arith

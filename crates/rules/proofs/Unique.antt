@@ -1,8 +1,8 @@
 -- Every promise of this crate allows one result only (the counts are told as those of `questions` are: `count-once` there).
 use mathlib.Core.Path.{_≡_, refl, ap}
 use mathlib.Core.Bool.{Bool, true, false}
-use Rattle.card.specs.Answer.{Answer, given, refused}
-use Rattle.card.proofs.Unique.{told-once}
+use Rattle.base.specs.Answer.{Answer, given, refused}
+use Rattle.base.proofs.Unique.{told-once}
 use Rattle.board.proofs.Unique.{whyOf, why-law}
 use Rattle.rules.specs.Asked.{yesTold}
 use Rattle.rules.specs.declared.YesNo.{YesNo}

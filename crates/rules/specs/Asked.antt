@@ -4,14 +4,14 @@ use mathlib.Core.List.{[]}
 use Prim.Native.Nat.{ℕ}
 use lib.Dec.{ltb}
 use lib.ListN.{getD}
-use Rattle.card.specs.Answer.{Answer, given, refused, unless}
+use Rattle.base.specs.Answer.{Answer, given, refused, unless}
 use Rattle.card.specs.Card.{isCard}
-use Rattle.board.specs.Judged.{after}
+use Rattle.board.specs.Verdict.{after}
 use Rattle.board.specs.Record.{examined, shown}
 use Rattle.board.specs.Refusal.{numberOf}
 use Rattle.board.specs.declared.Board.{Board}
 use Rattle.rules.specs.Fit.{fitsOn, homeTakes}
-use Rattle.rules.specs.Run.{runLength}
+use Rattle.runs.specs.Run.{runLength}
 use Rattle.rules.specs.Limit.{mostMoved}
 use Rattle.rules.specs.declared.YesNo.{YesNo}
 use Rattle.rules.specs.declared.YesNo.the-variants.{Yes, No, Refused}

@@ -1,5 +1,4 @@
 -- Read these in this order.
 pub mod Fit
-pub mod Run
 pub mod Limit
 pub mod Asked

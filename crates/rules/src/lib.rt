@@ -3,19 +3,21 @@ ghost use mathlib.Core.Path.{_≡_};
 ghost use mathlib.Core.Bool.{true};
 ghost use Prim.Native.Nat.{_<_};
 ghost use lib.ListN.{getD};
-ghost use Rattle.card.specs.Words.{listed};
+ghost use Rattle.base.specs.Words.{listed};
 ghost use Rattle.card.specs.Card.{isCard};
 ghost use Rattle.board.specs.Record.{columnAt};
 ghost use Rattle.board.specs.Inner.{GoodCells, GoodPiles, GoodColumns};
 ghost use Rattle.questions.specs.Told.{countTold};
-ghost use Rattle.rules.specs.Fit.{red, follows, fitsOn, homeTakes};
-ghost use Rattle.rules.specs.Run.{runLength};
+ghost use Rattle.rules.specs.Fit.{fitsOn, homeTakes};
+ghost use Rattle.runs.specs.Run.{runLength};
 ghost use Rattle.rules.specs.Limit.{usable, mostMoved};
 ghost use Rattle.rules.specs.Asked.{fitAsked, runAsked, mostAsked, takesAsked, yesTold};
 use board::Board;
+use board::CODES;
 use board::Examined;
+use board::ROOM;
 use board::Refusal;
-use board::judge::inspect;
+use board::verdict::inspect;
 use questions::CountAnswer;
 
 pub enum YesNo {
@@ -24,62 +26,38 @@ pub enum YesNo {
     Refused(Refusal),
 }
 
-// A card is red.
-fn is_red(code: u8) -> bool
-    requires { ⌜ isCard code ≡ true ⌝ }
-    ensures { λ r. ⌜ r ≡ red code ⌝ }
-{
-    match card::card_of(code).color() {
-        card::Color::Red => true,
-        card::Color::Black => false,
-    }
-}
-
-// `lower` may lie on `upper`: the rule of the game.
-pub fn may_lie_on(upper: u8, lower: u8) -> bool
-    requires { ⌜ isCard upper ≡ true ⌝ }
-    requires { ⌜ isCard lower ≡ true ⌝ }
-    ensures { λ r. ⌜ r ≡ follows upper lower ⌝ }
-{
-    let one_more = lower / 16 + 1;
-    if upper / 16 != one_more {
-        return false;
-    }
-    is_red(upper) != is_red(lower)
-}
-
 // A column takes a card.
-pub fn fit_at<'a>(counts: &'a [u8; 8], tableau: &'a [u8; 416], i: usize, code: u8) -> bool
+pub fn fit_at<'a>(counts: &'a [u8; 8], tableau: &'a [u8; CODES], i: usize, code: u8) -> bool
     requires { ⌜ GoodColumns (now counts) (now tableau) ⌝ }
     requires { ⌜ i < 8 ⌝ }
     requires { ⌜ isCard code ≡ true ⌝ }
     ensures { λ r. ⌜ r ≡ fitsOn (columnAt (now (counts .entry)) (now (tableau .entry)) i) code ⌝ }
 {
-    let count = card::wide(counts[i]);
+    let count = base::wide(counts[i]);
     if count == 0 {
         return true;
     }
-    let first = i * 52;
+    let first = i * ROOM;
     let last = first + (count - 1);
-    may_lie_on(tableau[last], code)
+    runs::may_lie_on(tableau[last], code)
 }
 
 // The longest run that ends at the top of a column.
-pub fn run_at<'a>(counts: &'a [u8; 8], tableau: &'a [u8; 416], i: usize) -> usize
+pub fn run_at<'a>(counts: &'a [u8; 8], tableau: &'a [u8; CODES], i: usize) -> usize
     requires { ⌜ GoodColumns (now counts) (now tableau) ⌝ }
     requires { ⌜ i < 8 ⌝ }
     ensures { λ r. ⌜ r ≡ runLength (columnAt (now (counts .entry)) (now (tableau .entry)) i) ⌝ }
 {
-    let count = card::wide(counts[i]);
+    let count = base::wide(counts[i]);
     if count == 0 {
         return 0;
     }
-    let first = i * 52;
+    let first = i * ROOM;
     let mut run = 1;
     while run < count {
         let lower = first + (count - run);
         let upper = lower - 1;
-        if !may_lie_on(tableau[upper], tableau[lower]) {
+        if !runs::may_lie_on(tableau[upper], tableau[lower]) {
             return run;
         }
         run += 1;
@@ -88,7 +66,7 @@ pub fn run_at<'a>(counts: &'a [u8; 8], tableau: &'a [u8; 416], i: usize) -> usiz
 }
 
 // The empty columns that help a move into a column.
-fn usable_at<'a>(counts: &'a [u8; 8], tableau: &'a [u8; 416], to: usize) -> usize
+fn usable_at<'a>(counts: &'a [u8; 8], tableau: &'a [u8; CODES], to: usize) -> usize
     requires { ⌜ GoodColumns (now counts) (now tableau) ⌝ }
     requires { ⌜ to < 8 ⌝ }
     ensures { λ r. ⌜ r ≡ usable (listed 8 (columnAt (now (counts .entry)) (now (tableau .entry)))) to ⌝ }
@@ -104,7 +82,7 @@ fn usable_at<'a>(counts: &'a [u8; 8], tableau: &'a [u8; 416], to: usize) -> usiz
 pub fn most_at<'a>(
     cells: &'a [u8; 4],
     counts: &'a [u8; 8],
-    tableau: &'a [u8; 416],
+    tableau: &'a [u8; CODES],
     to: usize,
 ) -> usize
     requires { ⌜ GoodCells (now cells) ⌝ }
@@ -123,9 +101,9 @@ pub fn home_takes(foundation: &[u8; 4], code: u8) -> bool
     requires { ⌜ isCard code ≡ true ⌝ }
     ensures { λ r. ⌜ r ≡ homeTakes (now (foundation .entry)) code ⌝ }
 {
-    let suit = card::wide(code % 16);
-    let next = card::wide(foundation[suit]) + 1;
-    card::wide(code / 16) == next
+    let suit = base::wide(code % 16);
+    let next = base::wide(foundation[suit]) + 1;
+    base::wide(code / 16) == next
 }
 
 pub fn can_add_to_tableau(b: Board, code: u8, i: usize) -> YesNo

@@ -4,7 +4,7 @@ use mathlib.Core.List.{List, [], _∷_}
 use Prim.Native.Nat.{ℕ, zero, suc, _+_, _≤_}
 use native.Mathlib.Omega.{arith}
 use lib.ListN.{length}
-use Rattle.card.specs.Words.{occurs}
+use Rattle.base.specs.Words.{occurs}
 use Rattle.board.specs.Table.{Table, cardsOn}
 use Rattle.board.specs.Record.{boardOf}
 use Rattle.board.specs.Inner.{Sound}

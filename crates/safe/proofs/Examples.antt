@@ -5,11 +5,11 @@ use mathlib.Core.List.{[], _∷_}
 use Prim.Native.Nat.{ℕ}
 use native.Mathlib.Omega.{arith}
 use borrow.Author.Tests.{le-leb}
-use Rattle.card.specs.Words.{every}
+use Rattle.base.specs.Words.{every}
 use Rattle.card.specs.Suit.{suitAt}
 use Rattle.card.specs.Card.{cardOf, codeOf}
 use Rattle.card.specs.declared.Suit.the-variants.{Heart}
-use Rattle.rules.specs.Fit.{red}
+use Rattle.runs.specs.Follows.{red}
 use Rattle.safe.specs.Safe.{redSuit, needed, safe}
 
 abbrev three : ℕ

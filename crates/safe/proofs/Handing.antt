@@ -5,10 +5,10 @@ use mathlib.Core.List.{List, [], _∷_}
 use Prim.Native.Nat.{ℕ, suc, _+_, _-_, _<_, _≤_}
 use native.Mathlib.Omega.{arith}
 use lib.ListN.{length}
-use Rattle.card.specs.Answer.{given, refused, unless}
+use Rattle.base.specs.Answer.{given, refused, unless}
 use Rattle.card.specs.Card.{isCard}
 use Rattle.board.specs.Table.{Table}
-use Rattle.board.specs.Judged.{Verdict, fine}
+use Rattle.board.specs.Verdict.{Verdict, fine}
 use Rattle.board.specs.Record.{examined, shown, boardOf}
 use Rattle.board.specs.Refusal.{examinedTold}
 use Rattle.board.specs.Inner.{Sound}

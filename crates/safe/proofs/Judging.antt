@@ -7,10 +7,10 @@ use native.Mathlib.Omega.{arith}
 use borrow.Author.Tests.{le-leb, lt-leb}
 use lib.Dec.{leb}
 use lib.ListN.{getD}
-use Rattle.card.specs.Words.{every}
+use Rattle.base.specs.Words.{every}
 use Rattle.card.specs.Card.{codeOf}
 use Rattle.card.specs.declared.Card.{Card}
-use Rattle.card.proofs.Words.{every-end, every-fails}
+use Rattle.base.proofs.Words.{every-end, every-fails}
 use Rattle.rules.specs.Fit.{homeTakes}
 use Rattle.safe.specs.Safe.{needed, safe}
 

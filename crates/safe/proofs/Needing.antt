@@ -8,8 +8,8 @@ use Rattle.card.specs.Suit.{suitAt, colorOf}
 use Rattle.card.specs.Card.{cardOf}
 use Rattle.card.specs.declared.Suit.{Suit}
 use Rattle.card.specs.declared.Card.{Card}
-use Rattle.rules.specs.Fit.{isRed, red}
-use Rattle.rules.proofs.Laying.{differ}
+use Rattle.runs.specs.Follows.{isRed, red}
+use Rattle.runs.proofs.Lying.{differ}
 use Rattle.safe.specs.Safe.{redSuit, needed}
 
 -- the suit s and the card x, as the code finds their colours

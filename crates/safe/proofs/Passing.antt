@@ -7,7 +7,7 @@ use native.Mathlib.Omega.{arith}
 use native.Mathlib.Decide.{decLt}
 use borrow.Author.Tests.{lt-ltb, le-ltb}
 use lib.Dec.{ltb}
-use Rattle.card.specs.Words.{listed}
+use Rattle.base.specs.Words.{listed}
 use Rattle.card.specs.Card.{isValue, codeOf}
 use Rattle.card.specs.declared.Card.{Card}
 use Rattle.board.specs.Table.{Table}

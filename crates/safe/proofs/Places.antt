@@ -4,9 +4,9 @@ use mathlib.Core.List.{List, [], _∷_}
 use Prim.Native.Nat.{ℕ, _-_, _<_, _≤_}
 use borrow.Author.Tests.{lt-ltb, le-ltb}
 use lib.ListN.{getD}
-use Rattle.card.specs.Words.{listed}
+use Rattle.base.specs.Words.{listed}
 use Rattle.card.specs.declared.Card.{Card}
-use Rattle.card.proofs.Words.{getD-listed}
+use Rattle.base.proofs.Words.{getD-listed}
 use Rattle.board.specs.Table.{held}
 use Rattle.questions.specs.Questions.{topOf, cellOf}
 use Rattle.questions.specs.declared.Top.{Top}

@@ -5,7 +5,7 @@ use Prim.Native.Nat.{ℕ}
 use native.Mathlib.Omega.{arith}
 use lib.ListN.{length, length-append}
 use lib.Seq.{take-at, drop-at}
-use Rattle.board.specs.Judged.{fine}
+use Rattle.board.specs.Verdict.{fine}
 use Rattle.board.specs.Record.{shown, boardOf}
 use Rattle.board.specs.Inner.{Sound}
 use Rattle.board.specs.declared.Board.{Board}
@@ -19,8 +19,8 @@ use Rattle.replay.specs.Played.{afterMoves, recordsOf}
 use Rattle.replay.proofs.Lining.{records-none, records-first}
 use Rattle.replay.proofs.Replaying.{a-line, good-line}
 use Rattle.replay.proofs.Legal.{line-legal}
-use Rattle.generate.specs.Asked.{bytesOf}
-use Rattle.generate.proofs.Writing.{record-long, bytes-long}
+use Rattle.moves.specs.Written.{bytesOf}
+use Rattle.moves.proofs.Writing.{record-long, bytes-long}
 use Rattle.safe.specs.Chain.{chain}
 use Rattle.safe.proofs.Chaining.{chain-legal, chain-most}
 

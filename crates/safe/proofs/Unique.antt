@@ -1,9 +1,9 @@
 -- Every promise of this crate allows one result only (`is_safe` tells a yes or no: rules' `yes-once`; the inner forms promise `r ≡ d`).
 use mathlib.Core.Path.{_≡_, refl, sym, ap, ap₂, _∙_}
 use Prim.Native.Nat.{ℕ}
-use Rattle.card.specs.Answer.{Answer, given, refused}
-use Rattle.card.proofs.Unique.{told-once}
-use Rattle.board.specs.Judged.{Verdict}
+use Rattle.base.specs.Answer.{Answer, given, refused}
+use Rattle.base.proofs.Unique.{told-once}
+use Rattle.board.specs.Verdict.{Verdict}
 use Rattle.board.specs.declared.Board.{Board}
 use Rattle.board.specs.declared.Examined.{Examined}
 use Rattle.board.proofs.Unique.{whyOf, why-law, examined-once}

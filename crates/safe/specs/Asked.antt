@@ -3,9 +3,9 @@ use mathlib.Core.Path.{_≡_}
 use mathlib.Core.Bool.{Bool}
 use Prim.Native.Nat.{ℕ}
 use lib.ListN.{length}
-use Rattle.card.specs.Answer.{Answer, given, refused, unless}
+use Rattle.base.specs.Answer.{Answer, given, refused, unless}
 use Rattle.card.specs.Card.{isCard}
-use Rattle.board.specs.Judged.{Verdict, after}
+use Rattle.board.specs.Verdict.{Verdict, after}
 use Rattle.board.specs.Record.{examined, shown, boardOf}
 use Rattle.board.specs.Refusal.{numberOf, examinedTold}
 use Rattle.board.specs.Inner.{Sound}

@@ -4,11 +4,11 @@ use mathlib.Core.List.{List, [], _∷_, _++_}
 use Prim.Native.Nat.{ℕ, _-_, _/_, _%_}
 use lib.Dec.{eqb, leb}
 use lib.ListN.{getD}
-use Rattle.card.specs.Words.{every}
+use Rattle.base.specs.Words.{every}
 use Rattle.card.specs.Suit.{suitAt, colorOf}
 use Rattle.card.specs.Card.{codeOf}
 use Rattle.board.specs.Table.{Table}
-use Rattle.rules.specs.Fit.{isRed, red}
+use Rattle.runs.specs.Follows.{isRed, red}
 use Rattle.moves.specs.Move.{card}
 use Rattle.moves.specs.declared.Move.{Move}
 use Rattle.generate.specs.Found.{found}

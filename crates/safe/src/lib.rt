@@ -3,22 +3,24 @@
 ghost use mathlib.Core.Path.{_≡_};
 ghost use mathlib.Core.Bool.{true, _&&_};
 ghost use Prim.Native.Nat.{_/_, _<_, _≤_};
-ghost use Rattle.card.specs.Words.{listed};
+ghost use Rattle.base.specs.Words.{listed};
 ghost use Rattle.card.specs.Suit.{colorOf};
 ghost use Rattle.card.specs.Card.{isCard, isValue, codeOf};
-ghost use Rattle.board.specs.Judged.{fine};
-ghost use Rattle.board.specs.Record.{examined, shown, columnAt};
+ghost use Rattle.board.specs.Verdict.{fine};
+ghost use Rattle.board.specs.Record.{examined, shown, columnAt, laid};
 ghost use Rattle.board.specs.Inner.{GoodCells, GoodPiles, GoodColumns, Sound};
 ghost use Rattle.questions.specs.Questions.{topOf};
-ghost use Rattle.rules.specs.Fit.{isRed, homeTakes};
+ghost use Rattle.runs.specs.Follows.{isRed};
+ghost use Rattle.rules.specs.Fit.{homeTakes};
 ghost use Rattle.rules.specs.Asked.{yesTold};
 ghost use Rattle.safe.specs.Safe.{needed, safe, firstSafe};
 ghost use Rattle.safe.specs.Inner.{cardsAt, homeMove};
 ghost use Rattle.safe.specs.Asked.{safeAsked, firstAsked, firstTold, Runs, Chains};
 use board::Board;
+use board::CODES;
 use board::Examined;
 use board::Refusal;
-use board::judge::inspect;
+use board::verdict::inspect;
 use card::Card;
 use moves::Move;
 use questions::Top;
@@ -81,7 +83,7 @@ pub fn is_safe_at(foundation: &[u8; 4], code: u8) -> bool
     }
     let mut s = 0u8;
     while s < 4 {
-        let suit = card::wide(s);
+        let suit = base::wide(s);
         let home = foundation[suit];
         if home < needed_of(code, s) {
             return false;
@@ -95,7 +97,7 @@ pub fn is_safe_at(foundation: &[u8; 4], code: u8) -> bool
 fn top_at_place<'a>(
     cells: &'a [u8; 4],
     counts: &'a [u8; 8],
-    tableau: &'a [u8; 416],
+    tableau: &'a [u8; CODES],
     place: usize,
 ) -> Top
     requires { ⌜ GoodCells (now cells) ⌝ }
@@ -143,10 +145,10 @@ pub fn first_safe_at<'a>(
     cells: &'a [u8; 4],
     foundation: &'a [u8; 4],
     counts: &'a [u8; 8],
-    tableau: &'a [u8; 416],
+    tableau: &'a [u8; CODES],
 ) -> SafeMove
-    requires { ⌜ Sound (record { cells = now cells; foundation = now foundation; counts = now counts; tableau = now tableau }) ⌝ }
-    ensures { λ r. ⌜ r ≡ firstSafe (shown (record { cells = now (cells .entry); foundation = now (foundation .entry); counts = now (counts .entry); tableau = now (tableau .entry) })) ⌝ }
+    requires { ⌜ Sound (laid (now cells) (now foundation) (now counts) (now tableau)) ⌝ }
+    ensures { λ r. ⌜ r ≡ firstSafe (shown (laid (now (cells .entry)) (now (foundation .entry)) (now (counts .entry)) (now (tableau .entry)))) ⌝ }
 {
     let mut next = 0;
     loop {
@@ -169,10 +171,10 @@ pub fn chain_to(
     cells: &mut [u8; 4],
     foundation: &mut [u8; 4],
     counts: &mut [u8; 8],
-    tableau: &mut [u8; 416],
+    tableau: &mut [u8; CODES],
 ) -> usize
-    requires { ⌜ Sound (record { cells = now cells; foundation = now foundation; counts = now counts; tableau = now tableau }) ⌝ }
-    ensures { λ r. ⌜ Runs (record { cells = now (cells .entry); foundation = now (foundation .entry); counts = now (counts .entry); tableau = now (tableau .entry) }) (record { cells = now (cells .exit); foundation = now (foundation .exit); counts = now (counts .exit); tableau = now (tableau .exit) }) r ⌝ }
+    requires { ⌜ Sound (laid (now cells) (now foundation) (now counts) (now tableau)) ⌝ }
+    ensures { λ r. ⌜ Runs (laid (now (cells .entry)) (now (foundation .entry)) (now (counts .entry)) (now (tableau .entry))) (laid (now (cells .exit)) (now (foundation .exit)) (now (counts .exit)) (now (tableau .exit))) r ⌝ }
 {
     let mut moves = 0;
     while moves < 52 {

@@ -5,9 +5,9 @@ use Prim.Native.Nat.{ℕ, _+_, _<_, _≤_}
 use native.Mathlib.Omega.{arith}
 use borrow.Author.Tests.{le-leb, lt-leb}
 use lib.ListN.{length}
-use Rattle.card.specs.Words.{listed}
-use Rattle.card.specs.Answer.{Answer, given, refused}
-use Rattle.board.specs.Judged.{Verdict, fine, after}
+use Rattle.base.specs.Words.{listed}
+use Rattle.base.specs.Answer.{Answer, given, refused}
+use Rattle.board.specs.Verdict.{Verdict, fine, after}
 use Rattle.board.specs.Record.{columnAt, shown, examined}
 use Rattle.board.specs.Refusal.{numberOf}
 use Rattle.board.specs.Inner.{Sized}
@@ -18,12 +18,13 @@ use Rattle.questions.specs.Questions.{homeCount, emptyColumns}
 use Rattle.questions.specs.declared.CountAnswer.the-variants.{Count, Refused}
 use Rattle.score.specs.Features.{immediateOn, blockedOn, imbalanceOf, cellsUsed, longestRun, featuresOf, Bounded}
 use Rattle.score.specs.Token.{tokenOf}
-use Rattle.score.specs.Asked.{featuresAsked, featuresTold, tokenAsked, roomAfter, Writes, Puts}
+use Rattle.base.specs.Put.{Puts}
+use Rattle.score.specs.Asked.{featuresAsked, featuresTold, tokenAsked, roomAfter, Writes}
 use Rattle.score.specs.declared.Features.{Features}
 use Rattle.score.specs.declared.FeaturesAnswer.{FeaturesAnswer}
 use Rattle.score.specs.declared.FeaturesAnswer.the-variants as features
 use Rattle.score.proofs.Bounds.{bounded}
-use Rattle.score.proofs.Putting.{puts-same, puts-over}
+use Rattle.base.proofs.Putting.{puts-same, puts-over}
 
 -- the features one by one
 pub features-are : (b : Board) {home immediate blocked imbalance used empty longest : ℕ}

@@ -10,13 +10,13 @@ use borrow.Author.Tests.{leb-true, le-leb, lt-leb, eq-eqb}
 use lib.Dec.{leb, eqb}
 use lib.ListN.{length, getD, take, drop, length-append, length-drop, drop-of-length-le}
 use lib.Seq.{drop-cons}
-use Rattle.card.specs.Words.{sum, all, occurs, listed, concat}
+use Rattle.base.specs.Words.{sum, all, occurs, listed, concat}
 use Rattle.card.specs.Card.{isCard}
 use Rattle.card.specs.Pack.{cardAt, placeOf}
-use Rattle.card.proofs.Words.{first, second, concat-more, getD-listed}
-use Rattle.card.proofs.Sums.{sum-part, sum-ones, sum-add, sum-same}
+use Rattle.base.proofs.Words.{first, second, concat-more, getD-listed}
+use Rattle.base.proofs.Sums.{sum-part, sum-ones, sum-add, sum-same}
 use Rattle.card.proofs.Codes.{card-is, at-place}
-use Rattle.board.specs.Record.{columnAt}
+use Rattle.board.specs.Record.{columnAt, room}
 use Rattle.board.specs.Inner.{GoodColumns}
 use Rattle.board.proofs.Soundness.{column-part, column-length}
 use Rattle.score.specs.Features.{blockedIn, blockedOn}
@@ -60,10 +60,10 @@ module _ {counts tableau : List ℕ} (g : GoodColumns counts tableau) (i w : ℕ
   column-52 : length (columnAt counts tableau i) ≤ 52
   column-52 = let n = column-length g i h in let b = g .within i h in omega arith
 
-  pub column-short : length (take (i * 52 + w - i * 52) (drop (i * 52) tableau)) ≤ 52
+  pub column-short : length (take (i * room + w - i * room) (drop (i * room) tableau)) ≤ 52
   column-short = subst (λ (l : List ℕ). length l ≤ 52) (sym (column-part counts tableau i e)) column-52
 
-  pub column-adds : {r : ℕ} → r ≡ blockedIn (take (i * 52 + w - i * 52) (drop (i * 52) tableau)) → r ≡ blockedIn (columnAt counts tableau i)
+  pub column-adds : {r : ℕ} → r ≡ blockedIn (take (i * room + w - i * room) (drop (i * room) tableau)) → r ≡ blockedIn (columnAt counts tableau i)
   column-adds q = q ∙ ap blockedIn (column-part counts tableau i e)
 
   pub column-little : blockedIn (columnAt counts tableau i) ≤ 2704

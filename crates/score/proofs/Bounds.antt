@@ -6,23 +6,23 @@ use Prim.Native.Nat.{ℕ, _+_, _*_, _<_, _≤_}
 use native.Mathlib.Omega.{arith}
 use lib.Dec.{eqb}
 use lib.ListN.{length, getD, length-append}
-use Rattle.card.specs.Words.{sum, all, occurs, listed, concat}
+use Rattle.base.specs.Words.{sum, all, occurs, listed, concat}
 use Rattle.card.specs.Card.{isCard}
-use Rattle.card.proofs.Words.{first, second, every-at, all-append, all-concat, getD-listed, occurs-append}
-use Rattle.card.proofs.Sums.{sum-same, sum-add, sum-all}
+use Rattle.base.proofs.Words.{first, second, every-at, all-append, all-concat, getD-listed, occurs-append}
+use Rattle.base.proofs.Sums.{sum-same, sum-add, sum-all}
 use Rattle.board.specs.Table.{piles, held, cardsOn}
-use Rattle.board.specs.Judged.{onlyCards, noneTwice, judged}
+use Rattle.board.specs.Verdict.{onlyCards, noneTwice, verdictOn}
 use Rattle.board.specs.Record.{columnAt, shown}
 use Rattle.board.specs.Inner.{GoodPiles, Sound}
 use Rattle.board.specs.declared.Board.{Board}
 use Rattle.board.proofs.Tables.{held-each}
-use Rattle.board.proofs.Judging.{good-shape}
+use Rattle.board.proofs.Verdicts.{good-shape}
 use Rattle.board.proofs.Soundness.{passed, sound-fine, sound-shape}
 use Rattle.board.proofs.Counting.{at-most-52}
 use Rattle.board.proofs.Fitting.{cards-on}
 use Rattle.questions.specs.Questions.{emptyCells}
 use Rattle.questions.proofs.Totals.{home-52}
-use Rattle.rules.specs.Run.{runLength}
+use Rattle.runs.specs.Run.{runLength}
 use Rattle.rules.proofs.Laying.{run-13, empty-at-most}
 use Rattle.score.specs.Features.{lastGoesHome, immediateOn, blockedIn, blockedOn, imbalanceOf, cellsUsed, longestRun, featuresOf, Bounded}
 use Rattle.score.proofs.Extremes.{greatest-most}
@@ -68,7 +68,7 @@ module _ (b : Board) (s : Sound b) where
   lying = concat (listed 8 column)
 
   codes : (onlyCards (shown b) ≡ true) × (noneTwice (cardsOn (shown b)) ≡ true)
-  unfolding judged
+  unfolding verdictOn
   codes =
       let o = passed (onlyCards (shown b)) 13 _ (sym (good-shape b (sound-shape s)) ∙ sound-fine s) in
       (o .0, passed (noneTwice (cardsOn (shown b))) 14 _ (o .1) .0)

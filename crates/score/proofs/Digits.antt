@@ -6,7 +6,7 @@ use native.Mathlib.Omega.{arith}
 use native.Mathlib.Decide.{decLt}
 use borrow.Author.Tests.{lt-ltb, le-ltb}
 use lib.ListN.{length, length-append}
-use Rattle.card.specs.Words.{concat}
+use Rattle.base.specs.Words.{concat}
 use Rattle.score.specs.Features.{Bounded}
 use Rattle.score.specs.Token.{digitsIn, decimal, tokenOf}
 use Rattle.score.specs.declared.Features.{Features}

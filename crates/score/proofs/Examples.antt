@@ -2,11 +2,11 @@
 use mathlib.Core.Path.{_≡_, refl, ap}
 use mathlib.Core.List.{[], _∷_}
 use lib.IntN.{pos}
-use Rattle.card.specs.Words.{sum, concat}
+use Rattle.base.specs.Words.{sum, concat}
 use Rattle.board.specs.Table.{Table, held}
 use Rattle.questions.specs.Questions.{homeCount, emptyColumns}
 use Rattle.rules.specs.Fit.{homeTakes}
-use Rattle.rules.specs.Run.{isRun, runLength}
+use Rattle.runs.specs.Run.{isRun, runLength}
 use Rattle.score.specs.Features.{greatest, least, lastGoesHome, immediateOn, blockedIn, blockedOn, imbalanceOf, cellsUsed, longestRun, featuresOf}
 use Rattle.score.specs.Scores.{heuristic, progress}
 use Rattle.score.specs.Token.{digitsIn, decimal, tokenOf}

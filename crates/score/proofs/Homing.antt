@@ -6,7 +6,7 @@ use Prim.Native.Nat.{ℕ, zero, suc, _+_, _-_, _*_, _<_}
 use native.Mathlib.Omega.{arith}
 use lib.ListN.{length, getD}
 use Rattle.board.specs.Table.{held}
-use Rattle.board.specs.Record.{columnAt}
+use Rattle.board.specs.Record.{columnAt, room}
 use Rattle.board.specs.Inner.{GoodColumns}
 use Rattle.board.proofs.Tables.{cell-empty, cell-card}
 use Rattle.board.proofs.Soundness.{column-length, column-code}
@@ -39,7 +39,7 @@ module _ (foundation : List ℕ) {counts tableau : List ℕ} (g : GoodColumns co
   pub column-none : w ≡ 0 → _≡_ {A = ℕ} 0 (cond (lastGoesHome foundation (columnAt counts tableau i)) 1 0)
   column-none q = no-home refl (last-none foundation (columnAt counts tableau i) (column-length g i h ∙ sym e ∙ q))
 
-  pub column-last : (w ≡ 0 → ⊥) → homeTakes foundation (getD tableau (i * 52 + (w - 1)) 0) ≡ lastGoesHome foundation (columnAt counts tableau i)
+  pub column-last : (w ≡ 0 → ⊥) → homeTakes foundation (getD tableau (i * room + (w - 1)) 0) ≡ lastGoesHome foundation (columnAt counts tableau i)
   column-last q =
       sym
       (last-some foundation (columnAt counts tableau i) (w - 1) (let n = column-length g i h in omega arith)

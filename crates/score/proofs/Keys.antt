@@ -7,7 +7,7 @@ use borrow.Author.Tests.{lt-ltb, le-ltb, le-leb, lt-leb, leb-true}
 use lib.Dec.{leb}
 use lib.IntN.{pos, negsuc, subℕ}
 use lib.Signed.{leZ}
-use Rattle.card.proofs.Words.{same-test}
+use Rattle.base.proofs.Words.{same-test}
 use Rattle.score.specs.Features.{Bounded}
 use Rattle.score.specs.Scores.{heuristicAdds, heuristicTakes, heuristic, heuristicBias, heuristicKey, progressAdds, progressTakes, progress, progressBias, progressKey}
 use Rattle.score.specs.declared.Features.{Features}

@@ -3,11 +3,11 @@ pub mod Homing
 pub mod Nexts
 pub mod Blocking
 pub mod Extremes
+pub mod Renumbering
 pub mod Bounds
 pub mod Keys
 pub mod Signs
 pub mod Digits
-pub mod Putting
 pub mod Answering
 pub mod Examples
 pub mod Unique

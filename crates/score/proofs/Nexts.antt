@@ -7,11 +7,11 @@ use native.Mathlib.Nat.{le-trans, le-of-suc-le-suc}
 use native.Mathlib.Omega.{arith}
 use borrow.Author.Tests.{eqb-true}
 use lib.ListN.{length, getD}
-use Rattle.card.specs.Words.{sum, all, occurs, listed, concat}
+use Rattle.base.specs.Words.{sum, all, occurs, listed, concat}
 use Rattle.card.specs.Card.{isCard}
 use Rattle.card.specs.Pack.{cardAt, placeOf}
-use Rattle.card.proofs.Words.{first, second, true-or-not, all-at, every-at, all-concat, occurs-here, occurs-other, occurs-none, occurs-append, occurs-concat}
-use Rattle.card.proofs.Sums.{sum-most, sum-part, sum-swap, sum-ones, sum-add}
+use Rattle.base.proofs.Words.{first, second, true-or-not, all-at, every-at, all-concat, occurs-here, occurs-other, occurs-none, occurs-append, occurs-concat}
+use Rattle.base.proofs.Sums.{sum-most, sum-part, sum-swap, sum-ones, sum-add}
 use Rattle.card.proofs.Codes.{card-is, at-place, place-below}
 use Rattle.rules.specs.Fit.{homeTakes}
 use Rattle.score.specs.Features.{lastGoesHome}

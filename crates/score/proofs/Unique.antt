@@ -3,13 +3,14 @@ use mathlib.Core.Path.{_≡_, refl, ap}
 use mathlib.Core.List.{List}
 use Prim.Native.Nat.{ℕ}
 use lib.IntN.{ℤ}
-use Rattle.card.specs.Answer.{Answer, given, refused}
-use Rattle.card.proofs.Unique.{once, told-once}
+use Rattle.base.specs.Answer.{Answer, given, refused}
+use Rattle.base.proofs.Unique.{once, told-once}
 use Rattle.board.specs.declared.Board.{Board}
 use Rattle.board.proofs.Unique.{whyOf, why-law}
 use Rattle.questions.specs.declared.CountAnswer.{CountAnswer}
 use Rattle.questions.proofs.Unique.{count-once}
-use Rattle.score.specs.Asked.{featuresTold, scoreTold, Writes, Puts}
+use Rattle.base.specs.Put.{Puts}
+use Rattle.score.specs.Asked.{featuresTold, scoreTold, Writes}
 use Rattle.score.specs.declared.Features.{Features}
 use Rattle.score.specs.declared.FeaturesAnswer.{FeaturesAnswer}
 use Rattle.score.specs.declared.FeaturesAnswer.the-variants as features

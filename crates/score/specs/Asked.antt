@@ -4,9 +4,9 @@ use mathlib.Core.List.{List, _++_}
 use Prim.Native.Nat.{ℕ, _+_}
 use lib.Dec.{leb}
 use lib.IntN.{ℤ}
-use lib.ListN.{length, take, drop}
-use Rattle.card.specs.Answer.{Answer, given, refused, unless}
-use Rattle.board.specs.Judged.{after}
+use lib.ListN.{length}
+use Rattle.base.specs.Answer.{Answer, given, refused, unless}
+use Rattle.board.specs.Verdict.{after}
 use Rattle.board.specs.Record.{examined, shown}
 use Rattle.board.specs.Refusal.{numberOf}
 use Rattle.board.specs.declared.Board.{Board}
@@ -20,6 +20,7 @@ use Rattle.score.specs.declared.FeaturesAnswer.{FeaturesAnswer}
 use Rattle.score.specs.declared.FeaturesAnswer.the-variants as features
 use Rattle.score.specs.declared.ScoreAnswer.{ScoreAnswer}
 use Rattle.score.specs.declared.ScoreAnswer.the-variants as score
+use Rattle.base.specs.Put.{over}
 
 unfoldable pub featuresAsked : Board → Answer Features
 featuresAsked b = after (examined b) (given (featuresOf (shown b)))
@@ -47,10 +48,6 @@ tokenRoom = 32
 unfoldable pub tokenAsked : Board → ℕ → Answer ℕ
 tokenAsked b lent = after (examined b) (unless (leb tokenRoom lent) 21 (given (length (tokenOf (featuresOf (shown b))))))
 
--- lent room with some bytes written at its start, and every other byte as it was
-unfoldable pub over : List ℕ → List ℕ → List ℕ
-over new old = new ++ drop (length new) old
-
 -- the room after an answer: a refusal changes nothing
 abbrev pub roomAfter : Answer ℕ → List ℕ → List ℕ → List ℕ
 roomAfter (given n) old new = over new old
@@ -60,8 +57,3 @@ roomAfter (refused n) old new = old
 pub record Writes (b : Board) (old new : List ℕ) (r : CountAnswer) : Type 0 where
   pub told : countTold r ≡ tokenAsked b (length old)
   pub room : new ≡ roomAfter (tokenAsked b (length old)) old (tokenOf (featuresOf (shown b)))
-
--- an inner form puts some bytes at a place: the room, and the place after them
-pub record Puts (old new : List ℕ) (at r : ℕ) (s : List ℕ) : Type 0 where
-  pub room : new ≡ take at old ++ (s ++ drop (at + length s) old)
-  pub after : r ≡ at + length s

@@ -4,11 +4,11 @@ use mathlib.Core.List.{List, [], _∷_}
 use Prim.Native.Nat.{ℕ, zero, suc, _+_, _-_, _/_, _≤_, min, max}
 use lib.Dec.{eqb, leb}
 use lib.ListN.{length, getD}
-use Rattle.card.specs.Words.{sum}
+use Rattle.base.specs.Words.{sum}
 use Rattle.board.specs.Table.{Table, held}
 use Rattle.questions.specs.Questions.{homeCount, emptyColumns}
 use Rattle.rules.specs.Fit.{homeTakes}
-use Rattle.rules.specs.Run.{runLength}
+use Rattle.runs.specs.Run.{runLength}
 use Rattle.score.specs.declared.Features.{Features}
 
 -- the greatest of f 0 .. f (n - 1), 0 of none; the least of f 0 .. f n

@@ -3,7 +3,7 @@ use mathlib.Core.List.{List, [], _∷_, _++_}
 use Prim.Native.Nat.{ℕ, zero, suc, _+_, _/_, _%_}
 use mathlib.Core.Bool.{cond}
 use lib.Dec.{ltb}
-use Rattle.card.specs.Words.{concat}
+use Rattle.base.specs.Words.{concat}
 use Rattle.score.specs.declared.Features.{Features}
 
 -- the decimal digits of a number of at most so many digits, as bytes of text

@@ -4,7 +4,7 @@ ghost use Rattle.score.specs.Asked.{featuresAsked, featuresTold, heurist
 use board::Board;
 use board::Examined;
 use board::Refusal;
-use board::judge::inspect;
+use board::verdict::inspect;
 use questions::CountAnswer;
 
 pub mod measure;
@@ -70,7 +70,7 @@ pub fn progress_token(b: Board, out: &mut [u8]) -> CountAnswer
     match features_of(b) {
         FeaturesAnswer::Are(f) => {
             if out.len() < 32 {
-                return CountAnswer::Refused(Refusal::NoRoom);
+                return CountAnswer::Refused(Refusal::LittleRoom);
             }
             let written = token::token_at(f, out);
             CountAnswer::Count(written)

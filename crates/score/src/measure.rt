@@ -5,12 +5,14 @@ ghost use mathlib.Core.List.{_∷_, []};
 ghost use Prim.Native.Nat.{_/_, _≤_, _<_, min, max};
 ghost use lib.Dec.{leb};
 ghost use lib.ListN.{length, getD};
-ghost use Rattle.card.specs.Words.{sum, listed};
+ghost use Rattle.base.specs.Words.{sum, listed};
 ghost use Rattle.board.specs.Table.{held};
-ghost use Rattle.board.specs.Record.{shown, columnAt};
+ghost use Rattle.board.specs.Record.{shown, columnAt, laid, room};
 ghost use Rattle.board.specs.Inner.{GoodCells, GoodPiles, GoodColumns, Sound};
 ghost use Rattle.score.specs.Features.{lastGoesHome, blockedIn, blockedOn, imbalanceOf, cellsUsed, longestRun, immediateOn, featuresOf};
 use crate::Features;
+use board::CODES;
+use board::ROOM;
 
 fn more(a: usize, b: usize) -> usize
     ensures { λ r. ⌜ r ≡ max a b ⌝ }
@@ -34,7 +36,7 @@ fn less(a: usize, b: usize) -> usize
 fn column_home<'a>(
     foundation: &'a [u8; 4],
     counts: &'a [u8; 8],
-    tableau: &'a [u8; 416],
+    tableau: &'a [u8; CODES],
     i: usize,
 ) -> usize
     requires { ⌜ GoodPiles (now foundation) ⌝ }
@@ -42,11 +44,11 @@ fn column_home<'a>(
     requires { ⌜ i < 8 ⌝ }
     ensures { λ r. ⌜ r ≡ cond (lastGoesHome (now (foundation .entry)) (columnAt (now (counts .entry)) (now (tableau .entry)) i)) 1 0 ⌝ }
 {
-    let count = card::wide(counts[i]);
+    let count = base::wide(counts[i]);
     if count == 0 {
         return 0;
     }
-    let first = i * 52;
+    let first = i * ROOM;
     let last = first + (count - 1);
     if rules::home_takes(foundation, tableau[last]) {
         return 1;
@@ -72,7 +74,7 @@ fn cell_home<'a>(foundation: &'a [u8; 4], cells: &'a [u8; 4], i: usize) -> usize
 }
 
 // How many columns have a card that can go home.
-fn columns_home<'a>(foundation: &'a [u8; 4], counts: &'a [u8; 8], tableau: &'a [u8; 416]) -> usize
+fn columns_home<'a>(foundation: &'a [u8; 4], counts: &'a [u8; 8], tableau: &'a [u8; CODES]) -> usize
     requires { ⌜ GoodPiles (now foundation) ⌝ }
     requires { ⌜ GoodColumns (now counts) (now tableau) ⌝ }
     ensures { λ r. ⌜ r ≡ sum 8 (λ i. cond (lastGoesHome (now (foundation .entry)) (columnAt (now (counts .entry)) (now (tableau .entry)) i)) 1 0) ⌝ }
@@ -105,10 +107,10 @@ pub fn immediate_foundation_count<'a>(
     cells: &'a [u8; 4],
     foundation: &'a [u8; 4],
     counts: &'a [u8; 8],
-    tableau: &'a [u8; 416],
+    tableau: &'a [u8; CODES],
 ) -> usize
-    requires { ⌜ Sound (record { cells = now cells; foundation = now foundation; counts = now counts; tableau = now tableau }) ⌝ }
-    ensures { λ r. ⌜ r ≡ immediateOn (shown (record { cells = now (cells .entry); foundation = now (foundation .entry); counts = now (counts .entry); tableau = now (tableau .entry) })) ⌝ }
+    requires { ⌜ Sound (laid (now cells) (now foundation) (now counts) (now tableau)) ⌝ }
+    ensures { λ r. ⌜ r ≡ immediateOn (shown (laid (now (cells .entry)) (now (foundation .entry)) (now (counts .entry)) (now (tableau .entry)))) ⌝ }
 {
     let from_columns = columns_home(foundation, counts, tableau);
     let from_cells = cells_home(foundation, cells);
@@ -127,7 +129,7 @@ fn blocked_by(code: u8, above: usize) -> usize
 
 // What the low cards of a column add.
 fn blocked_in(column: &[u8]) -> usize
-    requires { ⌜ length (now column) ≤ 52 ⌝ }
+    requires { ⌜ length (now column) ≤ room ⌝ }
     ensures { λ r. ⌜ r ≡ blockedIn (now (column .entry)) ⌝ }
 {
     let mut left = column.len();
@@ -148,8 +150,8 @@ pub fn blocked_low_penalty<'a>(counts: &'a [u8; 8], tableau: &'a [u8]) -> usize
     let mut n = 0;
     let mut i = 0;
     while i < 8 {
-        let first = i * 52;
-        let end = first + card::wide(counts[i]);
+        let first = i * ROOM;
+        let end = first + base::wide(counts[i]);
         n += blocked_in(&tableau[first..end]);
         i += 1;
     }
@@ -160,10 +162,10 @@ pub fn foundation_imbalance(foundation: &[u8; 4]) -> usize
     requires { ⌜ GoodPiles (now foundation) ⌝ }
     ensures { λ r. ⌜ r ≡ imbalanceOf (now (foundation .entry)) ⌝ }
 {
-    let clubs = card::wide(foundation[0]);
-    let diamonds = card::wide(foundation[1]);
-    let hearts = card::wide(foundation[2]);
-    let spades = card::wide(foundation[3]);
+    let clubs = base::wide(foundation[0]);
+    let diamonds = base::wide(foundation[1]);
+    let hearts = base::wide(foundation[2]);
+    let spades = base::wide(foundation[3]);
     let high = more(more(more(clubs, diamonds), hearts), spades);
     let low = less(less(less(clubs, diamonds), hearts), spades);
     high - low
@@ -176,7 +178,7 @@ pub fn free_cells_used(cells: &[u8; 4]) -> usize
     4 - questions::empty_cells_at(cells)
 }
 
-pub fn longest_run_length<'a>(counts: &'a [u8; 8], tableau: &'a [u8; 416]) -> usize
+pub fn longest_run_length<'a>(counts: &'a [u8; 8], tableau: &'a [u8; CODES]) -> usize
     requires { ⌜ GoodColumns (now counts) (now tableau) ⌝ }
     ensures { λ r. ⌜ r ≡ longestRun (listed 8 (columnAt (now (counts .entry)) (now (tableau .entry)))) ⌝ }
 {
@@ -193,10 +195,10 @@ pub fn compute_features<'a>(
     cells: &'a [u8; 4],
     foundation: &'a [u8; 4],
     counts: &'a [u8; 8],
-    tableau: &'a [u8; 416],
+    tableau: &'a [u8; CODES],
 ) -> Features
-    requires { ⌜ Sound (record { cells = now cells; foundation = now foundation; counts = now counts; tableau = now tableau }) ⌝ }
-    ensures { λ r. ⌜ r ≡ featuresOf (shown (record { cells = now (cells .entry); foundation = now (foundation .entry); counts = now (counts .entry); tableau = now (tableau .entry) })) ⌝ }
+    requires { ⌜ Sound (laid (now cells) (now foundation) (now counts) (now tableau)) ⌝ }
+    ensures { λ r. ⌜ r ≡ featuresOf (shown (laid (now (cells .entry)) (now (foundation .entry)) (now (counts .entry)) (now (tableau .entry)))) ⌝ }
 {
     Features {
         home: questions::total_at(foundation),

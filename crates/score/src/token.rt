@@ -5,22 +5,9 @@ ghost use Prim.Native.Nat.{_+_, _<_, _≤_};
 ghost use lib.ListN.{length};
 ghost use Rattle.score.specs.Features.{Bounded};
 ghost use Rattle.score.specs.Token.{decimal, tokenOf};
-ghost use Rattle.score.specs.Asked.{Puts};
+ghost use Rattle.base.specs.Put.{Puts};
 use crate::Features;
-
-// Some bytes at a place.
-pub fn put_bytes(out: &mut [u8], at: usize, s: &[u8]) -> usize
-    requires { ⌜ at + length (now s) ≤ length (now out) ⌝ }
-    ensures { λ r. ⌜ Puts (now (out .entry)) (now (out .exit)) at r (now (s .entry)) ⌝ }
-{
-    let mut k = 0;
-    while k < s.len() {
-        let to = at + k;
-        out[to] = s[k];
-        k += 1;
-    }
-    at + s.len()
-}
+use base::put::put_bytes;
 
 // A decimal digit.
 fn digit(n: usize) -> u8

@@ -3,13 +3,14 @@
 use mathlib.Core.Path.{_≡_, refl}
 use mathlib.Core.Bool.{false, xor}
 use mathlib.Core.List.{[], _∷_}
-use Rattle.card.specs.Words.{every, listed}
+use Rattle.base.specs.Words.{every, listed}
 use Rattle.card.specs.Card.{codeOf, cardOf}
 use Rattle.card.specs.Suit.{suitAt}
 use Rattle.board.specs.Table.{Table, pile, held}
 use Rattle.questions.specs.Questions.{wonOn}
-use Rattle.rules.specs.Fit.{red, homeTakes}
-use Rattle.rules.specs.Run.{isRun}
+use Rattle.runs.specs.Follows.{red}
+use Rattle.rules.specs.Fit.{homeTakes}
+use Rattle.runs.specs.Run.{isRun}
 use Rattle.moves.specs.Play.{lastOf, othersOf, hand, without, afterMove, takes, allowed}
 use Rattle.replay.specs.Played.{afterMoves}
 use Rattle.generate.specs.Found.{offered, ifAllowed, gather, foundBetween, foundFrom, found}

@@ -14,8 +14,6 @@ countdown =
     record {
       Board = ℕ;
       Move = ℕ;
-      Key = ℕ;
-      signature = λ b. b;
       same = eqb;
       won = λ b. eqb b 0;
       heuristic = λ b. b;

@@ -22,7 +22,7 @@ use Rattle.score.specs.Scores.{progressKey}
 use Rattle.score.proofs.Keys.{progress-order}
 use Rattle.search.specs.Solve.{some, none, State, limit, start, run}
 use Rattle.search.specs.Freecell.{freecell, judge}
-use Rattle.search.specs.Claims.{isSome, OutOfRoom, Follows}
+use Rattle.search.specs.Claims.{isSome, OutOfNodes, Follows}
 use Rattle.search.specs.Played.{PlayedOut, finalScore}
 use Rattle.search.proofs.Ruled.{Reaches, freecell-laws}
 use Rattle.search.proofs.Signed.{fair-bounded}
@@ -126,12 +126,12 @@ T4-limit t budget capacity partial e = limit-spends freecell t budget capacity p
 module _ (t : Table) (budget capacity : ℕ) (partial : Bool) where
   -- 23 is given only when a child passes the depth and cost tests and the nodes already fill the capacity
   pub T4-no-room-only-then : judge t budget capacity partial .number ≡ 23
-      → (wonOn (t .foundation) ≡ false) × OutOfRoom freecell budget capacity (start freecell t) (judge t budget capacity partial .pops)
+      → (wonOn (t .foundation) ≡ false) × OutOfNodes freecell budget capacity (start freecell t) (judge t budget capacity partial .pops)
   unfolding judge
   T4-no-room-only-then e = no-room-only-then freecell t budget capacity partial e
 
   -- and always then
-  pub T4-no-room-always-then : (pops : ℕ) → wonOn (t .foundation) ≡ false → OutOfRoom freecell budget capacity (start freecell t) pops
+  pub T4-no-room-always-then : (pops : ℕ) → wonOn (t .foundation) ≡ false → OutOfNodes freecell budget capacity (start freecell t) pops
       → judge t budget capacity partial ≡ record { number = 23; list = none; pops = pops }
   unfolding judge
   T4-no-room-always-then pops w r = no-room-always-then freecell t budget capacity partial pops w r

@@ -6,15 +6,15 @@ use mathlib.Core.Logic.{inl, inr}
 use Prim.Native.Nat.{ℕ, zero, suc}
 use lib.Dec.{leb}
 use Rattle.search.specs.Game.{Game, among}
-use Rattle.search.specs.Solve.{Node, State, Grown, full, grown, End, won, limit, exhausted, stuck, Turn, over, again}
-use Rattle.search.specs.Solve.{MAX_DEPTH, cost, costOf, differs, childOf, dropped, noRoom, bornAs, bear, thenGrow, expand, visitAs, visit, grownTurn, taken, onward, stopped, goOn, run, bearing}
+use Rattle.search.specs.Solve.{Node, State, Grown, outOfNodes, grown, End, won, limit, exhausted, outOfNodesAt, Turn, over, again}
+use Rattle.search.specs.Solve.{MAX_DEPTH, cost, differs, childOf, dropped, noRoom, bornAs, bear, thenGrow, expand, visitAs, visit, grownTurn, taken, onward, stopped, goOn, run, bearing}
 
 module _ (G : Game) (P : State G → Type 0) (F : Node G → Type 0)
     (takes : (s : State G) (n : Node G) (l : List (Node G)) → s .waiting ≡ n ∷ l → P s → P (taken G l s) × F n)
     (bears : (n : Node G) (k : G .Move) (s : State G) → F n → among k (G .candidates (n .board))
     → dropped G (childOf G n k s) s ≡ false → P s → P (bearing G (childOf G n k s) s)) where
   abbrev GrownKept : Grown G → Type 0
-  GrownKept full = Unit {0}
+  GrownKept outOfNodes = Unit {0}
   GrownKept (grown s) = P s
 
   -- what is known at an end: of its state, or of the node that is won
@@ -28,7 +28,7 @@ module _ (G : Game) (P : State G → Type 0) (F : Node G → Type 0)
   EndKept (won l p) = WonAt l
   EndKept (limit s) = P s
   EndKept (exhausted s) = P s
-  EndKept (stuck p) = Unit {0}
+  EndKept (outOfNodesAt p) = Unit {0}
 
   abbrev TurnKept : Turn G → Type 0
   TurnKept (over e) = EndKept e
@@ -49,11 +49,11 @@ module _ (G : Game) (P : State G → Type 0) (F : Node G → Type 0)
       (born-kept n k s f (i k (inl refl)) p (dropped G (childOf G n k s) s) (noRoom G c s) refl)
     where
       first : ((u : State G) → P u → GrownKept (expand G c n ks u)) → (g : Grown G) → GrownKept g → GrownKept (thenGrow G g (expand G c n ks))
-      first rest full q = tt
+      first rest outOfNodes q = tt
       first rest (grown u) q = rest u q
 
   grown-kept : (m : ℕ) (g : Grown G) → GrownKept g → TurnKept (grownTurn G m g)
-  grown-kept m full q = tt
+  grown-kept m outOfNodes q = tt
   grown-kept m (grown s) q = q
 
   visit-kept : (c : ℕ) (n : Node G) (s : State G) → F n → P s → (x w y : Bool) → G .won (n .board) ≡ w → TurnKept (visitAs G x w y c n s)
@@ -82,4 +82,4 @@ module _ (G : Game) (P : State G → Type 0) (F : Node G → Type 0)
           let t = takes s n l e p in
           turned rest (visit G c n (taken G l s))
           (visit-kept c n (taken G l s) (t .1) (t .0)
-          (differs (costOf G (G .signature (n .board)) (taken G l s .known)) (cost G n)) (G .won (n .board)) (leb MAX_DEPTH (cost G n)) refl)
+          (differs (taken G l s .known (n .board)) (cost G n)) (G .won (n .board)) (leb MAX_DEPTH (cost G n)) refl)

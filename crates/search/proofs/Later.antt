@@ -8,17 +8,17 @@ use native.Mathlib.Omega.{arith}
 use borrow.Author.Tests.{lt-leb, leb-false}
 use lib.Dec.{leb}
 use Rattle.search.specs.Game.{Game}
-use Rattle.search.specs.Solve.{Node, State, Grown, full, grown, End, won, limit, exhausted, stuck, Turn, over, again}
-use Rattle.search.specs.Solve.{MAX_DEPTH, cost, costOf, differs, childOf, dropped, noRoom, bornAs, bear, thenGrow, expand, visitAs, visit, grownTurn, taken, onward, stopped, goOn, run}
+use Rattle.search.specs.Solve.{Node, State, Grown, outOfNodes, grown, End, won, limit, exhausted, outOfNodesAt, Turn, over, again}
+use Rattle.search.specs.Solve.{MAX_DEPTH, cost, differs, childOf, dropped, noRoom, bornAs, bear, thenGrow, expand, visitAs, visit, grownTurn, taken, onward, stopped, goOn, run}
 
 module _ (G : Game) where
   -- ---- the cases of an outcome are apart
 
   abbrev isFull : Grown G → ℕ
-  isFull full = 1
+  isFull outOfNodes = 1
   isFull (grown s) = 0
 
-  full-or-grown : {A : Type 0} (s : State G) → _≡_ {A = Grown G} full (grown s) → A
+  full-or-grown : {A : Type 0} (s : State G) → _≡_ {A = Grown G} outOfNodes (grown s) → A
   full-or-grown s e = let z : _≡_ {A = ℕ} 1 0 = ap isFull e in absurd (let w : ⊥ = omega arith in w)
 
   abbrev isOver : Turn G → ℕ
@@ -50,11 +50,11 @@ module _ (G : Game) where
       where
         first : ((s u : State G) → expand G c n ks s ≡ grown u → expand G d n ks s ≡ grown u) → (g : Grown G) → bear G c n k s ≡ g
             → thenGrow G g (expand G c n ks) ≡ grown u → thenGrow G (bear G d n k s) (expand G d n ks) ≡ grown u
-        first rest full q e = full-or-grown u e
+        first rest outOfNodes q e = full-or-grown u e
         first rest (grown v) q e = ap (λ (g : Grown G). thenGrow G g (expand G d n ks)) (bear-more n k s v q) ∙ rest v u e
 
     grown-turn : (p : ℕ) (g h : Grown G) (u : State G) → (g ≡ grown u → h ≡ grown u) → grownTurn G p g ≡ again u → grownTurn G p h ≡ again u
-    grown-turn p full h u f e = over-or-again (stuck p) u e
+    grown-turn p outOfNodes h u f e = over-or-again (outOfNodesAt p) u e
     grown-turn p (grown s) h u f e =
         ap (grownTurn G p) (f (ap (λ (v : State G). grown v) (again-same s u e)))
       where
@@ -76,10 +76,10 @@ module _ (G : Game) where
   Fixed (won l p) = Unit {0}
   Fixed (limit s) = ⊥
   Fixed (exhausted s) = Unit {0}
-  Fixed (stuck p) = ⊥
+  Fixed (outOfNodesAt p) = ⊥
 
   grown-over : (p : ℕ) (g h : Grown G) (e : End G) → Fixed e → grownTurn G p g ≡ over e → grownTurn G p h ≡ over e
-  grown-over p full h e f q = absurd (subst Fixed (sym (over-same (stuck p) e q)) f)
+  grown-over p outOfNodes h e f q = absurd (subst Fixed (sym (over-same (outOfNodesAt p) e q)) f)
     where
       over-same : (e f : End G) → _≡_ {A = Turn G} (over e) (over f) → e ≡ f
       over-same e f q = cc
@@ -98,14 +98,14 @@ module _ (G : Game) where
   atLimit (won l p) = 0
   atLimit (limit s) = 1
   atLimit (exhausted s) = 0
-  atLimit (stuck p) = 0
+  atLimit (outOfNodesAt p) = 0
 
   abbrev turnLimit : Turn G → ℕ
   turnLimit (over e) = atLimit e
   turnLimit (again s) = 0
 
   grown-limit : (p : ℕ) (g : Grown G) → turnLimit (grownTurn G p g) ≡ 0
-  grown-limit p full = refl
+  grown-limit p outOfNodes = refl
   grown-limit p (grown s) = refl
 
   visit-limit : (c : ℕ) (x w y : Bool) (n : Node G) (s : State G) → turnLimit (visitAs G x w y c n s) ≡ 0
@@ -118,7 +118,7 @@ module _ (G : Game) where
   unfolding visit
   turn-limit c n s u e q r =
       let z : _≡_ {A = ℕ} 0 1 =
-      sym (visit-limit c (differs (costOf G (G .signature (n .board)) (s .known)) (cost G n)) (G .won (n .board)) (leb MAX_DEPTH (cost G n)) n s)
+      sym (visit-limit c (differs (s .known (n .board)) (cost G n)) (G .won (n .board)) (leb MAX_DEPTH (cost G n)) n s)
       ∙ ap turnLimit q ∙ ap atLimit r in
       absurd (let w : ⊥ = omega arith in w)
 
@@ -131,12 +131,12 @@ module _ (G : Game) where
     turn-again : (n : Node G) (s u : State G) → visit G c n s ≡ again u → visit G d n s ≡ again u
     unfolding visit
     turn-again n s u e =
-        visit-again more (differs (costOf G (G .signature (n .board)) (s .known)) (cost G n)) (G .won (n .board)) (leb MAX_DEPTH (cost G n)) n s u e
+        visit-again more (differs (s .known (n .board)) (cost G n)) (G .won (n .board)) (leb MAX_DEPTH (cost G n)) n s u e
 
     turn-over : (n : Node G) (s : State G) (e : End G) → Fixed e → visit G c n s ≡ over e → visit G d n s ≡ over e
     unfolding visit
     turn-over n s e f q =
-        visit-over c d (differs (costOf G (G .signature (n .board)) (s .known)) (cost G n)) (G .won (n .board)) (leb MAX_DEPTH (cost G n)) n s e f q
+        visit-over c d (differs (s .known (n .board)) (cost G n)) (G .won (n .board)) (leb MAX_DEPTH (cost G n)) n s e f q
 
     -- won or exhausted stays so, with all that it brings
     pub stays : (a b : ℕ) → a ≤ b → (s : State G) → Fixed (run G a c s) → run G b d s ≡ run G a c s

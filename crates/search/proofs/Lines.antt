@@ -8,8 +8,8 @@ use borrow.Author.Tests.{ltb-false}
 use lib.Dec.{leb, ltb}
 use lib.ListN.{length}
 use Rattle.search.specs.Game.{Game, Laws, among}
-use Rattle.search.specs.Solve.{Perhaps, none, some, Node, State, End, won, limit, exhausted, stuck}
-use Rattle.search.specs.Solve.{MAX_DEPTH, atLimit, whenExhausted, bestExhausted, cost, costOf, asGood, before, queued, better, start, childOf, dropped, bearing, taken, run, brings, bestAtLimit, progressed, answer, solveAs, solve}
+use Rattle.search.specs.Solve.{Perhaps, none, some, Node, State, End, won, limit, exhausted, outOfNodesAt}
+use Rattle.search.specs.Solve.{MAX_DEPTH, atLimit, whenExhausted, bestExhausted, cost, asGood, before, queued, better, start, childOf, dropped, bearing, taken, run, brings, bestAtLimit, progressed, answer, solveAs, solve}
 use Rattle.search.specs.Claims.{isSome}
 use Rattle.search.proofs.Kept.{EndKept, kept}
 
@@ -60,7 +60,7 @@ module _ (G : Game) (L : Laws G) (b : G .Board) where
       record {
         leads = L .both-lead (f .leads) (L .child-leads (n .board) k (f .good) i);
         good = L .child-good (n .board) k (f .good) i;
-        short = ltb-false MAX_DEPTH (cost G m) (first-false (ltb MAX_DEPTH (cost G m)) (asGood (costOf G (G .signature (m .board)) (s .known)) (cost G m)) e);
+        short = ltb-false MAX_DEPTH (cost G m) (first-false (ltb MAX_DEPTH (cost G m)) (asGood (s .known (m .board)) (cost G m)) e);
       } in
       record {
         all = queued-fine m fine (s .waiting) (p .all);
@@ -77,13 +77,13 @@ module _ (G : Game) (L : Laws G) (b : G .Board) where
   BestFine (won l p) = Unit {0}
   BestFine (limit s) = Fine (s .best)
   BestFine (exhausted s) = Fine (s .best)
-  BestFine (stuck p) = Unit {0}
+  BestFine (outOfNodesAt p) = Unit {0}
 
   end-fine : (e : End G) → EndKept G Sane Fine takes bears e → BestFine e
   end-fine (won l p) q = tt
   end-fine (limit s) q = q .best
   end-fine (exhausted s) q = q .best
-  end-fine (stuck p) q = tt
+  end-fine (outOfNodesAt p) q = tt
 
   -- the best node at an end is fine
   pub best-fine : L .Good b → (budget capacity : ℕ) → BestFine (run G budget capacity (start G b))
@@ -121,7 +121,7 @@ module _ (G : Game) (L : Laws G) (b : G .Board) where
       }
   end-told partial (limit s) q = best-told s (brings G partial s) (bestAtLimit G s) atLimit (λ z. let w : ⊥ = omega arith in w) q
   end-told partial (exhausted s) q = best-told s (brings G partial s) bestExhausted whenExhausted (λ z. let w : ⊥ = omega arith in w) q
-  end-told partial (stuck p) q = tt
+  end-told partial (outOfNodesAt p) q = tt
 
   solve-told : L .Good b → (budget capacity : ℕ) (partial w : Bool) → G .won b ≡ w
       → Told (solveAs G w b budget capacity partial .number) (solveAs G w b budget capacity partial .list)
@@ -151,7 +151,7 @@ module _ (G : Game) where
       by-list : (t : Bool) → isSome (progressed G t bestExhausted whenExhausted s .list) ≡ leb (progressed G t bestExhausted whenExhausted s .number) 2
       by-list true = refl
       by-list false = refl
-  list-number p (stuck n) = refl
+  list-number p (outOfNodesAt n) = refl
 
   -- answers 0, 1 and 2 bring a list, the others none
   pub list-when : (b : G .Board) (budget capacity : ℕ) (p : Bool) → isSome (solve G b budget capacity p .list) ≡ leb (solve G b budget capacity p .number) 2

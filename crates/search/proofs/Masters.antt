@@ -8,7 +8,7 @@ use native.Mathlib.Omega.{arith}
 use borrow.Author.Tests.{ltb-true}
 use lib.Dec.{ltb}
 use Rattle.search.specs.Game.{Game, Laws, among}
-use Rattle.search.specs.Solve.{Perhaps, some, Node, State, End, won, limit, exhausted, stuck, Answer}
+use Rattle.search.specs.Solve.{Perhaps, some, Node, State, End, won, limit, exhausted, outOfNodesAt, Answer}
 use Rattle.search.specs.Solve.{atLimit, whenExhausted, bestExhausted, better, start, childOf, dropped, bearing, taken, run, brings, bestAtLimit, progressed, answer, solveAs, solve}
 use Rattle.search.proofs.Later.{Fixed, stays, goes-on}
 use Rattle.search.proofs.Kept.{EndKept, kept}
@@ -45,7 +45,7 @@ module _ (G : Game) where
   fixed-end partial (won l p) f = tt
   fixed-end partial (limit s) f = limit-number (brings G partial s) s f
   fixed-end partial (exhausted s) f = tt
-  fixed-end partial (stuck p) f = not-stuck f
+  fixed-end partial (outOfNodesAt p) f = not-stuck f
 
   exhausted-number : {A : Type 0} (t : Bool) (s : State G) → progressed G t bestExhausted whenExhausted s .number ≡ 0 → A
   exhausted-number true s e = absurd (let w : ⊥ = omega arith in w)
@@ -56,14 +56,14 @@ module _ (G : Game) where
   won-list p q (won l n) e = refl
   won-list p q (limit s) e = absurd (limit-number (brings G p s) s (inl e))
   won-list p q (exhausted s) e = exhausted-number (brings G p s) s e
-  won-list p q (stuck n) e = absurd (let w : ⊥ = omega arith in w)
+  won-list p q (outOfNodesAt n) e = absurd (let w : ⊥ = omega arith in w)
 
   won-or-exhausted : (p q : Bool) (e : End G) → answer G p e .number ≡ 0 → (answer G q e .number ≡ 2) ⊎ (answer G q e .number ≡ 4) → ⊥
   won-or-exhausted p q (won l n) e (inl f) = omega arith
   won-or-exhausted p q (won l n) e (inr f) = omega arith
   won-or-exhausted p q (limit s) e f = limit-number (brings G p s) s (inl e)
   won-or-exhausted p q (exhausted s) e f = exhausted-number (brings G p s) s e
-  won-or-exhausted p q (stuck n) e f = omega arith
+  won-or-exhausted p q (outOfNodesAt n) e f = omega arith
 
   module _ (b : G .Board) where
     same-won : (a c x y : ℕ) (p q w : Bool) → solveAs G w b a c p .number ≡ 0 → solveAs G w b x y q .number ≡ 0
@@ -126,13 +126,13 @@ module _ (G : Game) where
     GrewTo (won l p) = Unit {0}
     GrewTo (limit s) = AtLeast s
     GrewTo (exhausted s) = AtLeast s
-    GrewTo (stuck p) = Unit {0}
+    GrewTo (outOfNodesAt p) = Unit {0}
 
     grew : (e : End G) → EndKept G AtLeast (λ n. Unit {0}) taking child-more e → GrewTo e
     grew (won l p) q = tt
     grew (limit s) q = q
     grew (exhausted s) q = q
-    grew (stuck p) q = tt
+    grew (outOfNodesAt p) q = tt
 
     grows : (a c : ℕ) (s : State G) → AtLeast s → GrewTo (run G a c s)
     grows a c s h = grew (run G a c s) (kept G AtLeast (λ n. Unit {0}) taking child-more a c s h)
@@ -174,8 +174,8 @@ module _ (G : Game) (L : Laws G) (b : G .Board) (good : L .Good b) where
         let f = best-board u (brings G p u) (bestAtLimit G u) atLimit l d (subst (BestFine G L b) small (best-fine G L b good a c)) q leads in
         let f′ = best-board v (brings G p v) bestExhausted whenExhausted m e (subst (BestFine G L b) large (best-fine G L b good x y)) t leads′ in
         omega arith
-    last u small q (stuck n) large (inl j) t = absurd (let w : ⊥ = omega arith in w)
-    last u small q (stuck n) large (inr j) t = absurd (let w : ⊥ = omega arith in w)
+    last u small q (outOfNodesAt n) large (inl j) t = absurd (let w : ⊥ = omega arith in w)
+    last u small q (outOfNodesAt n) large (inr j) t = absurd (let w : ⊥ = omega arith in w)
 
     first : (r : End G) → run G a c (start G b) ≡ r → answer G p r .number ≡ 1 → answer G p r .list ≡ some l
         → (answer G p (run G x y (start G b)) .number ≡ 1) ⊎ (answer G p (run G x y (start G b)) .number ≡ 2)
@@ -187,7 +187,7 @@ module _ (G : Game) (L : Laws G) (b : G .Board) (good : L .Good b) where
         two-or-four : (v : Bool) (u : State G) → progressed G v bestExhausted whenExhausted u .number ≡ 1 → G .progress d ≤ G .progress e
         two-or-four true u j = absurd (let w : ⊥ = omega arith in w)
         two-or-four false u j = absurd (let w : ⊥ = omega arith in w)
-    first (stuck n) small j q large t = absurd (let w : ⊥ = omega arith in w)
+    first (outOfNodesAt n) small j q large t = absurd (let w : ⊥ = omega arith in w)
 
     by-start : (w : Bool) → solveAs G w b a c p .number ≡ 1 → solveAs G w b a c p .list ≡ some l
         → (solveAs G w b x y p .number ≡ 1) ⊎ (solveAs G w b x y p .number ≡ 2) → solveAs G w b x y p .list ≡ some m → G .progress d ≤ G .progress e

@@ -3,7 +3,7 @@ use mathlib.Core.Path.{_≡_, refl, sym, ap, _∙_, subst}
 use Prim.Native.Nat.{ℕ, _+_, _-_, _<_, _≤_}
 use native.Mathlib.Omega.{arith}
 use Rattle.search.specs.Game.{Game}
-use Rattle.search.specs.Solve.{State, End, won, limit, exhausted, stuck}
+use Rattle.search.specs.Solve.{State, End, won, limit, exhausted, outOfNodesAt}
 use Rattle.search.specs.Solve.{run}
 use Rattle.search.specs.Claims.{Follows}
 use Rattle.search.proofs.Later.{Fixed, stays, goes-on}
@@ -39,7 +39,7 @@ module _ (G : Game) where
     prefix (won l p) e = stays G i a x h s (subst (Fixed G) (sym e) tt) ∙ e
     prefix (limit u) e = goes-on G i a x h s u e
     prefix (exhausted u) e = stays G i a x h s (subst (Fixed G) (sym e) tt) ∙ e
-    prefix (stuck p) e =
+    prefix (outOfNodesAt p) e =
         let r = room-when G a c s p e in
         let within : r .turns < a = r .within in
         record {

@@ -7,8 +7,8 @@ use Prim.Native.Nat.{ℕ, zero, suc, _+_, _≤_}
 use native.Mathlib.Omega.{arith}
 use lib.Dec.{leb}
 use Rattle.search.specs.Game.{Game}
-use Rattle.search.specs.Solve.{Node, State, Grown, full, grown, End, won, limit, exhausted, stuck, Turn, over, again}
-use Rattle.search.specs.Solve.{MAX_DEPTH, atLimit, whenExhausted, bestExhausted, cost, costOf, differs, childOf, dropped, noRoom, bornAs, bear, bearing, thenGrow, expand, visitAs, visit, grownTurn, taken, onward, stopped, goOn, start, run, brings, bestAtLimit, progressed, answer, solveAs, solve}
+use Rattle.search.specs.Solve.{Node, State, Grown, outOfNodes, grown, End, won, limit, exhausted, outOfNodesAt, Turn, over, again}
+use Rattle.search.specs.Solve.{MAX_DEPTH, atLimit, whenExhausted, bestExhausted, cost, differs, childOf, dropped, noRoom, bornAs, bear, bearing, thenGrow, expand, visitAs, visit, grownTurn, taken, onward, stopped, goOn, start, run, brings, bestAtLimit, progressed, answer, solveAs, solve}
 use Rattle.search.proofs.Later.{turn-limit}
 
 module _ (G : Game) where
@@ -16,12 +16,12 @@ module _ (G : Game) where
   popsOf (won l p) = p
   popsOf (limit s) = s .pops
   popsOf (exhausted s) = s .pops
-  popsOf (stuck p) = p
+  popsOf (outOfNodesAt p) = p
 
   -- expanding counts no pop
   module _ (k : ℕ) where
     abbrev GrownPops : Grown G → Type 0
-    GrownPops full = Unit {0}
+    GrownPops outOfNodes = Unit {0}
     GrownPops (grown s) = s .pops ≡ k
 
     born-pops : (x y : Bool) (m : Node G) (s : State G) → s .pops ≡ k → GrownPops (bornAs G x y m s)
@@ -37,7 +37,7 @@ module _ (G : Game) where
         first (expand-pops c n ks) (bear G c n j s) (born-pops (dropped G (childOf G n j s) s) (noRoom G c s) (childOf G n j s) s e)
       where
         first : ((u : State G) → u .pops ≡ k → GrownPops (expand G c n ks u)) → (g : Grown G) → GrownPops g → GrownPops (thenGrow G g (expand G c n ks))
-        first rest full q = tt
+        first rest outOfNodes q = tt
         first rest (grown u) q = rest u q
 
     -- a turn ends or goes on with the pops that it had
@@ -46,7 +46,7 @@ module _ (G : Game) where
     TurnPops (again s) = s .pops ≡ k
 
     grown-pops : (g : Grown G) → GrownPops g → TurnPops (grownTurn G k g)
-    grown-pops full q = refl
+    grown-pops outOfNodes q = refl
     grown-pops (grown s) q = q
 
   visit-pops : (c : ℕ) (n : Node G) (s : State G) (x w y : Bool) → TurnPops (s .pops) (visitAs G x w y c n s)
@@ -65,7 +65,7 @@ module _ (G : Game) where
   unfolding visit
   one-pop c n l s =
       subst (λ (p : ℕ). TurnPops p (visit G c n (taken G l s))) (one-more l s)
-      (visit-pops c n (taken G l s) (differs (costOf G (G .signature (n .board)) (taken G l s .known)) (cost G n)) (G .won (n .board)) (leb MAX_DEPTH (cost G n)))
+      (visit-pops c n (taken G l s) (differs (taken G l s .known (n .board)) (cost G n)) (G .won (n .board)) (leb MAX_DEPTH (cost G n)))
 
   within : (a c : ℕ) (s : State G) → popsOf (run G a c s) ≤ s .pops + a
   unfolding run visit
@@ -118,7 +118,7 @@ module _ (G : Game) where
   answer-pops p (won l n) = refl
   answer-pops p (limit s) = best-pops (brings G p s) (bestAtLimit G s) atLimit s
   answer-pops p (exhausted s) = best-pops (brings G p s) bestExhausted whenExhausted s
-  answer-pops p (stuck n) = refl
+  answer-pops p (outOfNodesAt n) = refl
 
   by-start : (b : G .Board) (budget capacity : ℕ) (p w : Bool) → solveAs G w b budget capacity p .pops ≤ budget
   unfolding start
@@ -148,8 +148,8 @@ module _ (G : Game) where
     by-end (won l n) q (inr e) = absurd (let w : ⊥ = omega arith in w)
     by-end (limit s) q e = let h = spent budget capacity (start G b) s q in let k = best-pops (brings G p s) (bestAtLimit G s) atLimit s in omega arith
     by-end (exhausted s) q e = exhausted-no-limit (brings G p s) s e
-    by-end (stuck n) q (inl e) = absurd (let w : ⊥ = omega arith in w)
-    by-end (stuck n) q (inr e) = absurd (let w : ⊥ = omega arith in w)
+    by-end (outOfNodesAt n) q (inl e) = absurd (let w : ⊥ = omega arith in w)
+    by-end (outOfNodesAt n) q (inr e) = absurd (let w : ⊥ = omega arith in w)
 
     -- T4: the limit strikes only when the budget is spent
     pub limit-spends : isLimit (solve G b budget capacity p .number) → solve G b budget capacity p .pops ≡ budget

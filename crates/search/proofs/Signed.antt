@@ -8,7 +8,7 @@ use borrow.Author.Tests.{eqb-true, eq-eqb, lt-ltb, le-ltb, lt-leb, le-leb, leb-t
 use lib.Dec.{eqb, leb, ltb}
 use lib.IntN.{ℤ, pos, negsuc, subℕ, _+ℤ_}
 use lib.Signed.{leZ, ltZ}
-use Rattle.card.proofs.Words.{first, second, both, same-test}
+use Rattle.base.proofs.Words.{first, second, both, same-test}
 use Rattle.board.specs.Table.{Table}
 use Rattle.board.specs.Record.{boardOf}
 use Rattle.board.proofs.Records.{shown-of-record}

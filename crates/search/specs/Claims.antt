@@ -5,8 +5,8 @@ use mathlib.Core.List.{List, _∷_, _++_}
 use Prim.Native.Nat.{ℕ, suc, _-_, _<_}
 use lib.Dec.{leb}
 use Rattle.search.specs.Game.{Game}
-use Rattle.search.specs.Solve.{Perhaps, none, some, Node, State, grown, End, won, limit, exhausted, stuck}
-use Rattle.search.specs.Solve.{MAX_DEPTH, cost, costOf, differs, childOf, dropped, noRoom, expand, taken, run}
+use Rattle.search.specs.Solve.{Perhaps, none, some, Node, State, grown, End, won, limit, exhausted, outOfNodesAt}
+use Rattle.search.specs.Solve.{MAX_DEPTH, cost, differs, childOf, dropped, noRoom, expand, taken, run}
 
 -- there is something
 abbrev pub isSome : {A : Type 0} → Perhaps A → Bool
@@ -18,12 +18,12 @@ module _ (G : Game) where
 
   -- a node that is taken is expanded: not skipped, not won, below the depth limit
   pub record Expanded (n : Node G) (s : State G) : Type 0 where
-    pub current : differs (costOf G (G .signature (n .board)) (s .known)) (cost G n) ≡ false
+    pub current : differs (s .known (n .board)) (cost G n) ≡ false
     pub unwon : G .won (n .board) ≡ false
     pub shallow : leb MAX_DEPTH (cost G n) ≡ false
 
   -- of the candidates of a node one makes a child that passes the depth and cost tests, and there is no room for it
-  pub record NoRoomAmong (capacity : ℕ) (n : Node G) (ms : List (G .Move)) (s : State G) : Type 0 where
+  pub record NoNodeAmong (capacity : ℕ) (n : Node G) (ms : List (G .Move)) (s : State G) : Type 0 where
     pub earlier : List (G .Move)
     pub move : G .Move
     pub later : List (G .Move)
@@ -34,7 +34,7 @@ module _ (G : Game) where
     pub fills : noRoom G capacity state ≡ true
 
   -- a run comes to such a node within its budget, at this count of pops
-  pub record OutOfRoom (budget capacity : ℕ) (s : State G) (pops : ℕ) : Type 0 where
+  pub record OutOfNodes (budget capacity : ℕ) (s : State G) (pops : ℕ) : Type 0 where
     pub turns : ℕ
     pub within : turns < budget
     pub state : State G
@@ -44,7 +44,7 @@ module _ (G : Game) where
     pub next : state .waiting ≡ node ∷ rest
     pub counted : suc (state .pops) ≡ pops
     pub expands : Expanded node (taken G rest state)
-    pub finds : NoRoomAmong capacity node (G .candidates (node .board)) (taken G rest state)
+    pub finds : NoNodeAmong capacity node (G .candidates (node .board)) (taken G rest state)
 
   -- ---- one run
 
@@ -62,4 +62,4 @@ module _ (G : Game) where
   Follows a c x y s (won l p) = run G x y s ≡ won l p
   Follows a c x y s (limit u) = run G x y s ≡ run G (x - a) y u
   Follows a c x y s (exhausted u) = run G x y s ≡ exhausted u
-  Follows a c x y s (stuck p) = WentOn a c x y s p
+  Follows a c x y s (outOfNodesAt p) = WentOn a c x y s p

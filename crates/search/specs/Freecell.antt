@@ -20,9 +20,7 @@ freecell =
     record {
       Board = Table;
       Move = Move;
-      Key = ℕ;
-      signature = signatureOf;
-      same = eqb;
+      same = λ t u. eqb (signatureOf t) (signatureOf u);
       won = λ t. wonOn (t .foundation);
       heuristic = λ t. heuristicKey (featuresOf t);
       progress = λ t. progressKey (featuresOf t);

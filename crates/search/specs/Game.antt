@@ -8,10 +8,8 @@ use Prim.Native.Nat.{ℕ}
 pub record Game : Type 1 where
   pub Board : Type 0
   pub Move : Type 0
-  pub Key : Type 0
   -- which boards count as the same
-  pub signature : Board → Key
-  pub same : Key → Key → Bool
+  pub same : Board → Board → Bool
   pub won : Board → Bool
   -- scores, raised to natural numbers
   pub heuristic : Board → ℕ

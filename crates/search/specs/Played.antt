@@ -5,10 +5,10 @@ use mathlib.Core.List.{List}
 use Prim.Native.Nat.{ℕ, _<_, _≤_}
 use lib.IntN.{ℤ}
 use lib.ListN.{length}
-use Rattle.card.specs.Words.{occurs}
+use Rattle.base.specs.Words.{occurs}
 use Rattle.card.specs.Pack.{cardAt}
 use Rattle.board.specs.Table.{Table, cardsOn}
-use Rattle.board.specs.Judged.{fine}
+use Rattle.board.specs.Verdict.{fine}
 use Rattle.board.specs.Record.{shown, boardOf}
 use Rattle.board.specs.declared.Board.{Board}
 use Rattle.questions.specs.Questions.{wonOn}

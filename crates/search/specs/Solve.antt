@@ -62,29 +62,25 @@ module _ (G : Game) where
   queued n [] = n ∷ []
   queued n (m ∷ l) = cond (before n m) (n ∷ m ∷ l) (m ∷ queued n l)
 
-  -- ---- the best cost known for a signature
+  -- ---- the best cost known for a board
 
-  pub record Known : Type 0 where
-    pub key : G .Key
-    pub cost : ℕ
-
-  unfoldable pub costOf : G .Key → List Known → Perhaps ℕ
-  costOf k [] = none
-  costOf k (e ∷ l) = cond (G .same k (e .key)) (some (e .cost)) (costOf k l)
+  -- with a cost for a board more: it is the cost of every board that counts as the same, and the others keep theirs
+  unfoldable pub learned : G .Board → ℕ → (G .Board → Perhaps ℕ) → G .Board → Perhaps ℕ
+  learned b n known c = cond (G .same c b) (some n) (known c)
 
   -- ---- the state of a search
 
   pub record State : Type 0 where
     pub born : ℕ
     pub waiting : List Node
-    pub known : List Known
+    pub known : G .Board → Perhaps ℕ
     pub best : Node
     pub pops : ℕ
 
   unfoldable pub start : G .Board → State
   start b =
       let root : Node = record { number = 0; line = []; board = b } in
-      record { born = 1; waiting = root ∷ []; known = (record { key = G .signature b; cost = 0 }) ∷ []; best = root; pops = 0 }
+      record { born = 1; waiting = root ∷ []; known = learned b 0 (λ c. none); best = root; pops = 0 }
 
   -- ---- a child
 
@@ -94,7 +90,7 @@ module _ (G : Game) where
 
   -- dropped: over the depth, or with a known cost not above its own
   unfoldable pub dropped : Node → State → Bool
-  dropped m s = ltb MAX_DEPTH (cost m) || asGood (costOf (G .signature (m .board)) (s .known)) (cost m)
+  dropped m s = ltb MAX_DEPTH (cost m) || asGood (s .known (m .board)) (cost m)
 
   -- the best progress moves only to a strictly higher score
   unfoldable pub better : Node → Node → Node
@@ -105,7 +101,7 @@ module _ (G : Game) where
       record {
         born = suc (s .born);
         waiting = queued m (s .waiting);
-        known = (record { key = G .signature (m .board); cost = cost m }) ∷ s .known;
+        known = learned (m .board) (cost m) (s .known);
         best = better m (s .best);
         pops = s .pops;
       }
@@ -115,20 +111,20 @@ module _ (G : Game) where
   noRoom capacity s = leb capacity (s .born)
 
   pub data Grown : Type 0 where
-    full : Grown
+    outOfNodes : Grown
     grown : State → Grown
 
   -- dropped or not, room or none
   abbrev pub bornAs : Bool → Bool → Node → State → Grown
   bornAs true x m s = grown s
-  bornAs false true m s = full
+  bornAs false true m s = outOfNodes
   bornAs false false m s = grown (bearing m s)
 
   unfoldable pub bear : ℕ → Node → G .Move → State → Grown
   bear capacity n k s = bornAs (dropped (childOf n k s) s) (noRoom capacity s) (childOf n k s) s
 
   abbrev pub thenGrow : Grown → (State → Grown) → Grown
-  thenGrow full f = full
+  thenGrow outOfNodes f = outOfNodes
   thenGrow (grown s) f = f s
 
   -- the children in order
@@ -143,17 +139,17 @@ module _ (G : Game) where
     won : List (G .Move) → ℕ → End
     limit : State → End
     exhausted : State → End
-    stuck : ℕ → End
+    outOfNodesAt : ℕ → End
 
   pub data Turn : Type 0 where
     over : End → Turn
     again : State → Turn
 
   abbrev pub grownTurn : ℕ → Grown → Turn
-  grownTurn pops full = over (stuck pops)
+  grownTurn pops outOfNodes = over (outOfNodesAt pops)
   grownTurn pops (grown s) = again s
 
-  -- skipped if the best cost for its signature differs; the answer if it is won; skipped at the depth limit; else expanded
+  -- skipped if the best cost for its board differs; the answer if it is won; skipped at the depth limit; else expanded
   abbrev pub visitAs : Bool → Bool → Bool → ℕ → Node → State → Turn
   visitAs true w d capacity n s = again s
   visitAs false true d capacity n s = over (won (n .line) (s .pops))
@@ -162,7 +158,7 @@ module _ (G : Game) where
 
   unfoldable pub visit : ℕ → Node → State → Turn
   visit capacity n s =
-      visitAs (differs (costOf (G .signature (n .board)) (s .known)) (cost n)) (G .won (n .board)) (leb MAX_DEPTH (cost n)) capacity n s
+      visitAs (differs (s .known (n .board)) (cost n)) (G .won (n .board)) (leb MAX_DEPTH (cost n)) capacity n s
 
   -- a node is taken: the others wait on, and one pop more is counted
   unfoldable pub taken : List Node → State → State
@@ -213,7 +209,7 @@ module _ (G : Game) where
   answer partial (won l p) = record { number = 0; list = some l; pops = p }
   answer partial (limit s) = progressed (brings partial s) (bestAtLimit s) atLimit s
   answer partial (exhausted s) = progressed (brings partial s) bestExhausted whenExhausted s
-  answer partial (stuck p) = record { number = 23; list = none; pops = p }
+  answer partial (outOfNodesAt p) = record { number = 23; list = none; pops = p }
 
   -- a won start is won at once
   abbrev pub solveAs : Bool → G .Board → ℕ → ℕ → Bool → Answer

@@ -3,8 +3,8 @@ use mathlib.Core.Path.{_≡_, sym, ap}
 use mathlib.Core.List.{List, []}
 use Prim.Native.Nat.{ℕ}
 use lib.ListN.{getD}
-use Rattle.card.specs.Words.{listed}
-use Rattle.card.proofs.Words.{getD-listed, listed-same}
+use Rattle.base.specs.Words.{listed}
+use Rattle.base.proofs.Words.{getD-listed, listed-same}
 use Rattle.signature.specs.Fnv.{fnv}
 use Rattle.signature.specs.Signed.{columnHashes}
 

@@ -2,10 +2,10 @@
 use mathlib.Core.Path.{_≡_, refl}
 use mathlib.Core.List.{[], _∷_}
 use Rattle.card.specs.Pack.{cardAt}
-use Rattle.card.specs.Words.{listed, concat}
+use Rattle.base.specs.Words.{listed, concat}
 use Rattle.board.specs.Table.{pile}
 use Rattle.signature.specs.Fnv.{xorDigits, fnvStep, fnvFrom, fnv}
-use Rattle.order.specs.Rising.{placed, rising}
+use Rattle.base.specs.Rising.{placed, rising}
 use Rattle.signature.specs.Signed.{homeWords, columnHashes, wordsOf, signed, signatureOf}
 
 -- no octet: cbf29ce484222325

@@ -4,8 +4,8 @@ use mathlib.Core.List.{List, [], _∷_, _++_}
 use Prim.Native.Nat.{ℕ, _+_, _≤_}
 use native.Mathlib.Omega.{arith}
 use lib.ListN.{length, getD}
-use Rattle.card.specs.Words.{listed, concat}
-use Rattle.card.proofs.Words.{listed-more, concat-none, concat-more}
+use Rattle.base.specs.Words.{listed, concat}
+use Rattle.base.proofs.Words.{listed-more, concat-none, concat-more}
 use Rattle.board.proofs.Records.{listed-back}
 use Rattle.signature.specs.Fnv.{fnvStep, fnvFrom}
 

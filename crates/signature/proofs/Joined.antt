@@ -2,9 +2,9 @@
 use mathlib.Core.Path.{_≡_}
 use mathlib.Core.List.{List, _∷_, _++_}
 use Prim.Native.Nat.{ℕ}
-use Rattle.card.specs.Words.{listed, concat}
+use Rattle.base.specs.Words.{listed, concat}
 use Rattle.signature.specs.Fnv.{offset, fnvStep, fnvFrom, fnv}
-use Rattle.order.specs.Rising.{rising}
+use Rattle.base.specs.Rising.{rising}
 use Rattle.signature.specs.Signed.{homeWords, wordsOf, signed}
 use Rattle.signature.proofs.Hashing.{hash-append, hash-next}
 

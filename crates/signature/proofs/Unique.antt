@@ -1,8 +1,8 @@
 -- The promise of `signature_of` allows one result only (see card's `Unique`; the inner forms' promises are `r ≡ d`).
 use mathlib.Core.Path.{_≡_, refl, ap}
 use Prim.Native.Nat.{ℕ}
-use Rattle.card.specs.Answer.{Answer, given, refused}
-use Rattle.card.proofs.Unique.{told-once}
+use Rattle.base.specs.Answer.{Answer, given, refused}
+use Rattle.base.proofs.Unique.{told-once}
 use Rattle.board.proofs.Unique.{whyOf, why-law}
 use Rattle.signature.specs.Signed.{signatureTold}
 use Rattle.signature.specs.declared.SignatureAnswer.{SignatureAnswer}

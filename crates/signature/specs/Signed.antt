@@ -3,15 +3,15 @@ use mathlib.Core.Path.{_≡_}
 use mathlib.Core.List.{List, [], _∷_, _++_}
 use Prim.Native.Nat.{ℕ, _+_, _<_}
 use lib.ListN.{getD}
-use Rattle.card.specs.Words.{listed, concat}
-use Rattle.card.specs.Answer.{Answer, given, refused}
+use Rattle.base.specs.Words.{listed, concat}
+use Rattle.base.specs.Answer.{Answer, given, refused}
 use Rattle.board.specs.Table.{Table, pile}
-use Rattle.board.specs.Judged.{after}
+use Rattle.board.specs.Verdict.{after}
 use Rattle.board.specs.Record.{examined, shown}
 use Rattle.board.specs.Refusal.{numberOf}
 use Rattle.board.specs.declared.Board.{Board}
 use Rattle.signature.specs.Fnv.{fnv}
-use Rattle.order.specs.Rising.{rising}
+use Rattle.base.specs.Rising.{rising}
 use Rattle.signature.specs.declared.SignatureAnswer.{SignatureAnswer}
 use Rattle.signature.specs.declared.SignatureAnswer.the-variants.{Signature, Refused}
 
@@ -41,21 +41,3 @@ signatureAsked b = after (examined b) (given (signatureOf (shown b)))
 abbrev pub signatureTold : SignatureAnswer → Answer ℕ
 signatureTold (Signature n) = given n
 signatureTold (Refused why) = refused (numberOf why)
-
--- ---- what the laws speak of
-
--- p renumbers the places 0 to n - 1, and q numbers them back
-pub record Renumbers (n : ℕ) (p q : ℕ → ℕ) : Type 0 where
-  pub within : (i : ℕ) → i < n → p i < n
-  pub back : (i : ℕ) → i < n → q (p i) ≡ i
-  pub again : (j : ℕ) → j < n → q j < n
-  pub forth : (j : ℕ) → j < n → p (q j) ≡ j
-
--- a table with its cells and columns renumbered
-unfoldable pub renumbered : (ℕ → ℕ) → (ℕ → ℕ) → Table → Table
-renumbered cell column t =
-    record {
-      cells = listed 4 (λ i. getD (t .cells) (cell i) 0);
-      foundation = t .foundation;
-      columns = listed 8 (λ i. getD (t .columns) (column i) []);
-    }

@@ -2,16 +2,18 @@
 ghost use mathlib.Core.Path.{_≡_};
 ghost use Prim.Native.Nat.{_*_, _%_, _^_, _≤_, _<_};
 ghost use lib.ListN.{length};
-ghost use Rattle.card.specs.Words.{listed, concat};
-ghost use Rattle.board.specs.Record.{shown, columnAt};
+ghost use Rattle.base.specs.Words.{listed, concat};
+ghost use Rattle.board.specs.Record.{shown, columnAt, laid};
 ghost use Rattle.board.specs.Inner.{GoodPiles, GoodColumns, Sound};
 ghost use Rattle.board.specs.Table.{pile};
 ghost use Rattle.signature.specs.Fnv.{prime, fnvStep, fnvFrom, fnv};
 ghost use Rattle.signature.specs.Signed.{homeWords, columnHashes, signed, signatureOf, signatureAsked, signatureTold};
 use board::Board;
+use board::CODES;
 use board::Examined;
+use board::ROOM;
 use board::Refusal;
-use board::judge::inspect;
+use board::verdict::inspect;
 
 pub enum SignatureAnswer {
     Signature(u64),
@@ -136,8 +138,8 @@ pub fn sign<'a>(foundation: &'a [u8; 4], cells: &'a [u8; 4], hashes: &'a [u64; 8
 {
     let mut held = four_words(cells);
     let mut lie = *hashes;
-    order::sort(&mut held);
-    order::sort(&mut lie);
+    base::order::sort(&mut held);
+    base::order::sort(&mut lie);
     let homes = take_homes(foundation);
     let with_cells = take_words(step(homes, 253), &held);
     take_words(step(with_cells, 254), &lie)
@@ -149,8 +151,8 @@ pub fn hash_at<'a>(counts: &'a [u8; 8], tableau: &'a [u8], i: usize) -> u64
     requires { ⌜ i < 8 ⌝ }
     ensures { λ r. ⌜ r ≡ fnv (columnAt (now (counts .entry)) (now (tableau .entry)) i) ⌝ }
 {
-    let first = i * 52;
-    let end = first + card::wide(counts[i]);
+    let first = i * ROOM;
+    let end = first + base::wide(counts[i]);
     fnv1a(&tableau[first..end])
 }
 
@@ -173,10 +175,10 @@ pub fn signature_at<'a>(
     cells: &'a [u8; 4],
     foundation: &'a [u8; 4],
     counts: &'a [u8; 8],
-    tableau: &'a [u8; 416],
+    tableau: &'a [u8; CODES],
 ) -> u64
-    requires { ⌜ Sound (record { cells = now cells; foundation = now foundation; counts = now counts; tableau = now tableau }) ⌝ }
-    ensures { λ r. ⌜ r ≡ signatureOf (shown (record { cells = now (cells .entry); foundation = now (foundation .entry); counts = now (counts .entry); tableau = now (tableau .entry) })) ⌝ }
+    requires { ⌜ Sound (laid (now cells) (now foundation) (now counts) (now tableau)) ⌝ }
+    ensures { λ r. ⌜ r ≡ signatureOf (shown (laid (now (cells .entry)) (now (foundation .entry)) (now (counts .entry)) (now (tableau .entry)))) ⌝ }
 {
     let hashes = hashes_at(counts, tableau);
     sign(foundation, cells, &hashes)

@@ -1,8 +1,8 @@
 -- The order of the refusals, evaluated where several hold at once: the board's, then 20, 21, 22.
 use mathlib.Core.Path.{_≡_}
 use Prim.Native.Nat.{ℕ}
-use Rattle.card.specs.Answer.{refused}
-use Rattle.board.specs.Judged.{fine}
+use Rattle.base.specs.Answer.{refused}
+use Rattle.board.specs.Verdict.{fine}
 use Rattle.board.specs.Record.{examined}
 use Rattle.board.specs.declared.Board.{Board}
 use Rattle.solver.specs.Searched.{accepted}

@@ -8,8 +8,8 @@ use native.Mathlib.Omega.{arith}
 use borrow.Author.Tests.{le-leb, lt-leb}
 use lib.Dec.{leb}
 use lib.ListN.{length}
-use Rattle.card.specs.Answer.{refused, unless}
-use Rattle.board.specs.Judged.{Verdict, fine, after}
+use Rattle.base.specs.Answer.{refused, unless}
+use Rattle.board.specs.Verdict.{Verdict, fine, after}
 use Rattle.board.specs.Record.{examined, shown}
 use Rattle.board.specs.Inner.{Sound}
 use Rattle.board.specs.Refusal.{numberOf, examinedTold}
@@ -18,15 +18,16 @@ use Rattle.board.specs.declared.Refusal.{Refusal}
 use Rattle.board.specs.declared.Examined.{Examined}
 use Rattle.board.specs.declared.Examined.the-variants as board
 use Rattle.questions.proofs.Asking.{after-no, after-yes}
-use Rattle.blank.specs.Blank.{blank}
-use Rattle.blank.proofs.Clearing.{blank-same}
+use Rattle.base.specs.Blank.{blank}
+use Rattle.base.proofs.Clearing.{blank-same}
 use Rattle.search.specs.Freecell.{judge}
-use Rattle.machine.specs.declared.Room.{Room}
+use Rattle.memory.specs.declared.Room.{Room}
 use Rattle.solver.specs.Capacity.{capacityOf, entriesOf}
 use Rattle.solver.specs.Searched.{outcome, accepted, searchedBy, answeredWith, searched}
 use Rattle.solver.specs.declared.Said.the-variants.{Refused}
 use Rattle.solver.specs.declared.Judged.{Judged}
 use Rattle.solver.specs.Inner.{Accepts, Roomy, Gives}
+use Rattle.memory.specs.Memory.{lent}
 
 -- ---- the order of the refusals
 
@@ -121,10 +122,10 @@ unfolding entriesOf
 entry-spare c h k = le-min (omega arith) (omega arith)
 
 pub roomy : {nodes heap keys costs : List ℕ} {capacity : ℕ} {r : Room} → capacity ≡ capacityOf (length nodes) (length heap) (length keys) (length costs) → 1 ≤ capacity
-    → r ≡ record { capacity = capacity; entries = entriesOf capacity } → Roomy r (record { nodes = nodes; heap = heap; keys = keys; costs = costs })
-roomy {nodes} {heap} {keys} {costs} {capacity} {r} e some q = subst (λ (x : Room). Roomy x (record { nodes = nodes; heap = heap; keys = keys; costs = costs })) (sym q) own
+    → r ≡ record { capacity = capacity; entries = entriesOf capacity } → Roomy r (lent nodes heap keys costs)
+roomy {nodes} {heap} {keys} {costs} {capacity} {r} e some q = subst (λ (x : Room). Roomy x (lent nodes heap keys costs)) (sym q) own
   where
-    own : Roomy (record { capacity = capacity; entries = entriesOf capacity }) (record { nodes = nodes; heap = heap; keys = keys; costs = costs })
+    own : Roomy (record { capacity = capacity; entries = entriesOf capacity }) (lent nodes heap keys costs)
     own =
         let t = twice-most capacity in
         record {
@@ -154,13 +155,13 @@ module _ (nodes heap keys costs list : List ℕ) (b : Board) (budget : ℕ) (par
       ap (λ (x : Judged). outcome x nodes heap keys costs list) q ∙ ap (λ (v : Verdict). searchedBy nodes heap keys costs list v b budget partial) e
 
   -- the parts were cleared, and the answer is given
-  pub outcome-given : (n h k : List ℕ) {r : Judged} {room : Room} {after : List ℕ} {n′ h′ k′ c′ : List ℕ} {capacity : ℕ}
+  pub outcome-given : (n h k c : List ℕ) {r : Judged} {room : Room} {after : List ℕ} {n′ h′ k′ c′ : List ℕ} {capacity : ℕ}
       → accepted b budget here (length list) ≡ fine → capacity ≡ here → room ≡ record { capacity = capacity; entries = entriesOf capacity }
       → Gives (judge (shown b) budget (room .capacity) partial) list after r
-      → length n ≡ length nodes → n′ ≡ blank n → length h ≡ length heap → h′ ≡ blank h → length k ≡ length keys → k′ ≡ blank k → c′ ≡ blank costs
+      → length n ≡ length nodes → n′ ≡ blank n → length h ≡ length heap → h′ ≡ blank h → length k ≡ length keys → k′ ≡ blank k → length c ≡ length costs → c′ ≡ blank c
       → outcome r n′ h′ k′ c′ after ≡ searched nodes heap keys costs list b budget partial
   unfolding searched answeredWith
-  outcome-given n h k {r} {room} {after} {n′} {h′} {k′} {c′} {capacity} ok q y g ln bn lh bh lk bk zc =
+  outcome-given n h k c {r} {room} {after} {n′} {h′} {k′} {c′} {capacity} ok q y g ln bn lh bh lk bk lc bc =
       let cap : room .capacity ≡ here = ap (λ (x : Room). x .capacity) y ∙ q in
       given (subst (λ (x : ℕ). Gives (judge (shown b) budget x partial) list after r) cap g)
       ∙ sym (ap (λ (v : Verdict). searchedBy nodes heap keys costs list v b budget partial) ok)
@@ -173,6 +174,9 @@ module _ (nodes heap keys costs list : List ℕ) (b : Board) (budget : ℕ) (par
 
       zk : k′ ≡ blank keys
       zk = bk ∙ blank-same k keys lk
+
+      zc : c′ ≡ blank costs
+      zc = bc ∙ blank-same c costs lc
 
       given : Gives (judge (shown b) budget here partial) list after r
           → outcome r n′ h′ k′ c′ after ≡ answeredWith nodes heap keys costs list (judge (shown b) budget here partial)

@@ -9,9 +9,9 @@ use borrow.Author.Tests.{le-leb, lt-leb, leb-true}
 use lib.Dec.{leb}
 use lib.ListN.{length, take, drop}
 use lib.Seq.{take-at, drop-at}
-use Rattle.card.specs.Answer.{given, refused, unless}
-use Rattle.card.proofs.Words.{true-or-not}
-use Rattle.board.specs.Judged.{Verdict, fine, after, onlyCards, noneTwice, noneMissing, judged}
+use Rattle.base.specs.Answer.{given, refused, unless}
+use Rattle.base.proofs.Words.{true-or-not}
+use Rattle.board.specs.Verdict.{Verdict, fine, after, onlyCards, noneTwice, noneMissing, verdictOn}
 use Rattle.board.specs.Table.{Table, cardsOn}
 use Rattle.board.specs.Record.{shapely, examined, shown}
 use Rattle.board.specs.Inner.{Sound, Sized}
@@ -21,14 +21,14 @@ use Rattle.questions.specs.Questions.{wonOn}
 use Rattle.moves.specs.Record.{recordOf}
 use Rattle.moves.specs.declared.Move.{Move}
 use Rattle.moves.proofs.Saying.{one-move}
-use Rattle.generate.specs.Asked.{bytesOf, written}
-use Rattle.generate.proofs.Writing.{record-long, bytes-long, written-none, written-long}
-use Rattle.search.specs.Solve.{Perhaps, some, none, State, End, won, limit, exhausted, stuck, Answer, start, run, brings, progressed, answer, solveAs, solve}
+use Rattle.moves.specs.Written.{bytesOf, written}
+use Rattle.moves.proofs.Writing.{record-long, bytes-long, written-none, written-long}
+use Rattle.search.specs.Solve.{Perhaps, some, none, State, End, won, limit, exhausted, outOfNodesAt, Answer, start, run, brings, progressed, answer, solveAs, solve}
 use Rattle.search.specs.Freecell.{freecell, judge}
-use Rattle.search.specs.Claims.{isSome, OutOfRoom}
+use Rattle.search.specs.Claims.{isSome, OutOfNodes}
 use Rattle.search.specs.Played.{PlayedOut}
 use Rattle.search.proofs.Judge as proved
-use Rattle.machine.specs.Memory.{Memory}
+use Rattle.memory.specs.Memory.{Memory, lent}
 use Rattle.solver.specs.Searched.{Outcome, outcome, movesOf, accepted, searchedBy, answeredWith, searched}
 use Rattle.solver.specs.Inner.{Gives}
 use Rattle.solver.specs.Told.{Call, IsAnswer, number, capacity, verdict, Accepted, handed, HandsOver, NoList, Cleared, Untouched}
@@ -51,7 +51,7 @@ module _ {n : ℕ} where
   in-either (refused k) w f g e = f e
 
   refusal-number : (b : Board) (budget capacity lent : ℕ) → accepted b budget capacity lent ≡ refused n → Between n
-  unfolding accepted examined judged
+  unfolding accepted examined verdictOn
   refusal-number b budget capacity lent =
       in-either (examined b) _
       (in-test (shapely b) 12 _ (omega arith) (omega arith)
@@ -74,7 +74,7 @@ end-answer : (partial : Bool) (e : End freecell) → IsAnswer (answer freecell p
 end-answer partial (won l p) = inl (omega arith)
 end-answer partial (limit s) = progress-answer (brings freecell partial s) _ _ s (omega arith) (omega arith)
 end-answer partial (exhausted s) = progress-answer (brings freecell partial s) _ _ s (omega arith) (omega arith)
-end-answer partial (stuck p) = inr refl
+end-answer partial (outOfNodesAt p) = inr refl
 
 solve-answer : (w : Bool) (t : Table) (budget capacity : ℕ) (partial : Bool) → IsAnswer (solveAs freecell w t budget capacity partial .number)
 solve-answer true t budget capacity partial = inl (omega arith)
@@ -190,7 +190,7 @@ module _ {b : Board} (c : Call b) where
         record {
           pops = ap (λ (x : Outcome). x .pops) o;
           none = record { many = ap (λ (x : Outcome). x .moves) o; same = ap (λ (x : Outcome). x .list) o };
-          scratch = ap (λ (x : Outcome). let m : Memory = record { nodes = x .nodes; heap = x .heap; keys = x .keys; costs = x .costs } in m) o;
+          scratch = ap (λ (x : Outcome). let m : Memory = lent (x .nodes) (x .heap) (x .keys) (x .costs) in m) o;
         },
       )
 
@@ -308,15 +308,15 @@ module _ {b : Board} (c : Call b) where
 
   -- 23 is given only when a child passes the depth and cost tests and the nodes already fill the capacity
   pub T4-no-room-only-then : number c ≡ 23
-      → (wonOn (shown b .foundation) ≡ false) × OutOfRoom freecell (c .budget) (capacity c) (start freecell (shown b)) (c .result .pops)
+      → (wonOn (shown b .foundation) ≡ false) × OutOfNodes freecell (c .budget) (capacity c) (start freecell (shown b)) (c .result .pops)
   T4-no-room-only-then e =
       let g = gives (answered-accepted (inr e)) in
       let r = proved.T4-no-room-only-then (shown b) (c .budget) (capacity c) (c .partial) (sym (g .number) ∙ e) in
-      (r .0, subst (OutOfRoom freecell (c .budget) (capacity c) (start freecell (shown b))) (sym (g .pops)) (r .1))
+      (r .0, subst (OutOfNodes freecell (c .budget) (capacity c) (start freecell (shown b))) (sym (g .pops)) (r .1))
 
   -- and always then
   pub T4-no-room-always-then : (pops : ℕ) → Accepted c → wonOn (shown b .foundation) ≡ false
-      → OutOfRoom freecell (c .budget) (capacity c) (start freecell (shown b)) pops → (number c ≡ 23) × (c .result .pops ≡ pops)
+      → OutOfNodes freecell (c .budget) (capacity c) (start freecell (shown b)) pops → (number c ≡ 23) × (c .result .pops ≡ pops)
   T4-no-room-always-then pops a w r =
       let g = gives a in
       let e = proved.T4-no-room-always-then (shown b) (c .budget) (capacity c) (c .partial) pops w r in

@@ -8,28 +8,28 @@ use types.Run.{OneOf}
 use denote.Enum.Declared.{tagOf}
 use Rattle.board.specs.Record.{shown}
 use Rattle.board.specs.declared.Board.{Board}
-use Rattle.machine.specs.declared.Room.{Room}
-use Rattle.machine.specs.declared.Counts.{Counts}
-use Rattle.machine.specs.declared.Advance.{Advance}
-use Rattle.machine.specs.declared.Advance.the-variants as advance
-use Rattle.machine.specs.declared.Ended.{Ended}
-use Rattle.machine.specs.declared.Ended.the-variants as ended
-use Rattle.machine.specs.Memory.{Memory}
-use Rattle.machine.specs.View.{stateOf}
-use Rattle.machine.specs.Machine.{Machine}
-use Rattle.machine.proofs.Advance.{the-type}
-use Rattle.machine.proofs.Within.{holding}
-use Rattle.machine.proofs.Visiting.{Turns}
-use Rattle.machine.proofs.Running.{Running, running-start, running-exhausted, running-limit, running-turn, running-won, running-stuck}
-use Rattle.solver.specs.Inner.{SameSize, Advances, endedBy, Goes}
-use Rattle.solver.proofs.Expanding.{sized}
+use Rattle.memory.specs.declared.Room.{Room}
+use Rattle.memory.specs.declared.Counts.{Counts}
+use Rattle.memory.specs.declared.Advance.{Advance}
+use Rattle.memory.specs.declared.Advance.the-variants as advance
+use Rattle.memory.specs.declared.Ended.{Ended}
+use Rattle.memory.specs.declared.Ended.the-variants as ended
+use Rattle.memory.specs.Memory.{Memory}
+use Rattle.memory.specs.View.{stateOf}
+use Rattle.memory.specs.Machine.{Machine}
+use Rattle.memory.proofs.Advance.{the-type}
+use Rattle.memory.proofs.Visiting.{Turns}
+use Rattle.memory.proofs.Running.{Running, running-start, running-exhausted, running-limit, running-turn, running-won, running-stuck}
+use Rattle.children.specs.Inner.{SameSize}
+use Rattle.solver.specs.Inner.{Advances, endedBy, Goes}
+use Rattle.children.proofs.Expanding.{sized}
 
 -- so many turns are left of the budget
 pub record Going (root : Board) (r : Room) (budget : ℕ) (m₀ : Memory) (c₀ : Counts) (m : Memory) (c : Counts) (left : ℕ) : Type 0 where
   pub size : SameSize m₀ m
   pub machine : Machine (shown root) r m c
   pub spent : c .pops + left ≡ budget
-  pub running : Running (shown root) (r .capacity) budget (stateOf (shown root) m₀ c₀) (budget - left) m c
+  pub running : Running (shown root) r budget (stateOf (shown root) r m₀ c₀) (budget - left) m c
 
 pub going-start : {root : Board} {r : Room} {m : Memory} {c : Counts} (budget : ℕ) → Machine (shown root) r m c → c .pops ≡ 0 → Going root r budget m c m c budget
 going-start {root} {r} {m} {c} budget k e =
@@ -37,8 +37,8 @@ going-start {root} {r} {m} {c} budget k e =
       size = record { nodes = refl; heap = refl; keys = refl; costs = refl };
       machine = k;
       spent = omega arith;
-      running = subst (λ (q : ℕ). Running (shown root) (r .capacity) budget (stateOf (shown root) m c) q m c) (let z : 0 ≡ budget - budget = omega arith in z)
-          (running-start (shown root) (r .capacity) budget refl);
+      running = subst (λ (q : ℕ). Running (shown root) r budget (stateOf (shown root) r m c) q m c) (let z : 0 ≡ budget - budget = omega arith in z)
+          (running-start (shown root) r budget refl);
     }
 
 -- a turn that does not go on
@@ -56,7 +56,6 @@ module _ {root : Board} {r : Room} {budget : ℕ} {m₀ : Memory} {c₀ : Counts
   going-limit e w =
       record {
         closed = (g .machine .best, g .machine .nodes);
-        holds = holding (g .machine);
         ends = running-limit (g .running) (g .machine) (omega arith) w;
       }
 
@@ -64,7 +63,6 @@ module _ {root : Board} {r : Room} {budget : ℕ} {m₀ : Memory} {c₀ : Counts
   going-exhausted w =
       record {
         closed = (g .machine .best, g .machine .nodes);
-        holds = holding (g .machine);
         ends = running-exhausted (g .running) (omega arith);
       }
 
@@ -72,7 +70,7 @@ module _ {root : Board} {r : Room} {budget : ℕ} {m₀ : Memory} {c₀ : Counts
     within : budget - left < budget
     within = let s = g .spent in omega arith
 
-    turns : {new : Memory} {a : Advance} → Advances root r m new c a → Turns (shown root) (r .capacity) m c new a
+    turns : {new : Memory} {a : Advance} → Advances root r m new c a → Turns (shown root) r m c new a
     turns y = record { on = y .turns }
 
     pub going-turn : {new : Memory} {a : Advance} {d : Counts} → Advances root r m new c a → a ≡ advance.Again d → SameSize m new → Going root r budget m₀ c₀ new d (left - 1)
@@ -86,14 +84,14 @@ module _ {root : Board} {r : Room} {budget : ℕ} {m₀ : Memory} {c₀ : Counts
               size = sized (g .size) z;
               machine = x .went .0;
               spent = omega arith;
-              running = subst (λ (n : ℕ). Running (shown root) (r .capacity) budget (stateOf (shown root) m₀ c₀) n new d) (let e : budget - left + 1 ≡ budget - (left - 1) = omega arith in e)
+              running = subst (λ (n : ℕ). Running (shown root) r budget (stateOf (shown root) r m₀ c₀) n new d) (let e : budget - left + 1 ≡ budget - (left - 1) = omega arith in e)
                   (running-turn (g .running) within (turns x));
             }
 
     over : {new : Memory} (a : Advance) → Advances root r m new c a → ((d : Counts) → a ≡ advance.Again d → ⊥) → Goes root r budget m₀ new c₀ (endedBy a)
     over (advance.Again d) y n = absurd (n d refl)
-    over (advance.WonBy i d) y n = record { closed = (y .went .0, y .went .1 .0); holds = y .went .1 .1; ends = running-won (g .running) within (turns y) }
-    over (advance.Stuck p) y n = record { closed = tt; holds = y .went; ends = running-stuck (g .running) within (turns y) }
+    over (advance.WonBy i d) y n = record { closed = y .went; ends = running-won (g .running) within (turns y) }
+    over (advance.OutOfNodes p) y n = record { closed = tt; ends = running-stuck (g .running) within (turns y) }
 
     pub going-over : {new : Memory} {a : Advance} {e : Ended} → Advances root r m new c a → OneOf (1 ∷ 2 ∷ []) (tagOf the-type a) → e ≡ endedBy a → Goes root r budget m₀ new c₀ e
     going-over {new} {a} y k q = subst (Goes root r budget m₀ new c₀) (sym q) (over a y (other-turn a k))

@@ -8,16 +8,17 @@ use borrow.Author.Tests.{eq-eqb, ne-eqb}
 use lib.Dec.{eqb}
 use Rattle.board.specs.Table.{Table}
 use Rattle.moves.specs.declared.Move.{Move}
-use Rattle.generate.proofs.Writing.{written-none}
+use Rattle.moves.proofs.Writing.{written-none}
 use Rattle.nodes.specs.Line.{lineTo}
 use Rattle.nodes.specs.Nodes.{Nodes}
 use Rattle.search.specs.Freecell.{freecell}
 use Rattle.search.specs.Solve.{progressed, answer}
-use Rattle.machine.specs.declared.Counts.{Counts}
-use Rattle.machine.specs.declared.Ended.{Ended}
-use Rattle.machine.specs.declared.Ended.the-variants as ended
-use Rattle.machine.specs.Memory.{Memory}
-use Rattle.machine.specs.View.{nodeOf, stateOf, endOf}
+use Rattle.memory.specs.declared.Room.{Room}
+use Rattle.memory.specs.declared.Counts.{Counts}
+use Rattle.memory.specs.declared.Ended.{Ended}
+use Rattle.memory.specs.declared.Ended.the-variants as ended
+use Rattle.memory.specs.Memory.{Memory}
+use Rattle.memory.specs.View.{nodeOf, stateOf, endOf}
 use Rattle.solver.specs.Searched.{saidNumber}
 use Rattle.solver.specs.declared.Said.{Said}
 use Rattle.solver.specs.declared.Said.the-variants.{BestAtLimit, BestExhausted, Limit, Exhausted}
@@ -69,16 +70,16 @@ gives-by t nodes partial {e} {d} {old} {new} {r} q g = subst (λ (x : Ended). Gi
 
 -- ---- it is the definition's answer
 
-module _ (t : Table) (m : Memory) (partial : Bool) where
+module _ (t : Table) (r : Room) (m : Memory) (partial : Bool) where
   best-answer : (b : Bool) (with without : Said) (c : Counts)
-      → lineOr b with without (lineTo t (m .nodes) (c .best)) (c .pops) ≡ progressed freecell b (saidNumber with) (saidNumber without) (stateOf t m c)
+      → lineOr b with without (lineTo t (m .nodes) (c .best)) (c .pops) ≡ progressed freecell b (saidNumber with) (saidNumber without) (stateOf t r m c)
   unfolding stateOf nodeOf
   best-answer true with without c = refl
   best-answer false with without c = refl
 
-  pub answer-is : (e : Ended) → answerBy t (m .nodes) partial e ≡ answer freecell partial (endOf t m e)
+  pub answer-is : (e : Ended) → answerBy t (m .nodes) partial e ≡ answer freecell partial (endOf t r m e)
   unfolding stateOf nodeOf
   answer-is (ended.Won i c) = refl
   answer-is (ended.Limit c) = best-answer (partial && not (eqb (c .best) 0)) BestAtLimit Limit c
   answer-is (ended.Exhausted c) = best-answer (partial && not (eqb (c .best) 0)) BestExhausted Exhausted c
-  answer-is (ended.NoRoom p) = refl
+  answer-is (ended.OutOfNodes p) = refl

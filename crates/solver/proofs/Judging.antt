@@ -9,24 +9,24 @@ use Rattle.board.specs.Record.{shown}
 use Rattle.board.specs.declared.Board.{Board}
 use Rattle.questions.specs.Questions.{wonOn}
 use Rattle.questions.proofs.Asking.{shown-foundation}
-use Rattle.generate.proofs.Writing.{written-none}
-use Rattle.blank.specs.Blank.{blank}
-use Rattle.blank.proofs.Clearing.{blank-long, blank-reads}
+use Rattle.moves.proofs.Writing.{written-none}
+use Rattle.base.specs.Blank.{blank}
+use Rattle.base.proofs.Clearing.{blank-long, blank-reads}
 use Rattle.search.specs.Freecell.{freecell, judge}
 use Rattle.search.specs.Solve.{Answer, State, run, answer, solveAs, solve}
-use Rattle.machine.specs.declared.Room.{Room}
-use Rattle.machine.specs.declared.Counts.{Counts}
-use Rattle.machine.specs.declared.Ended.{Ended}
-use Rattle.machine.specs.Memory.{Memory}
-use Rattle.machine.specs.Steps.{Blank}
+use Rattle.memory.specs.declared.Room.{Room}
+use Rattle.memory.specs.declared.Counts.{Counts}
+use Rattle.memory.specs.declared.Ended.{Ended}
+use Rattle.memory.specs.Memory.{Memory, lent}
+use Rattle.memory.specs.Steps.{Blank}
 use Rattle.solver.specs.declared.Said.the-variants.{Won}
 use Rattle.solver.specs.declared.Judged.{Judged}
 use Rattle.solver.specs.Inner.{Roomy, Seeds, Goes, Gives, answerBy}
 use Rattle.solver.proofs.Handing.{answer-is}
 
 -- with the cost bytes cleared
-pub roomy-blank : {r : Room} {nodes heap keys costs zeros : List ℕ} → Roomy r (record { nodes = nodes; heap = heap; keys = keys; costs = costs }) → zeros ≡ blank costs
-    → Blank r (record { nodes = nodes; heap = heap; keys = keys; costs = zeros })
+pub roomy-blank : {r : Room} {nodes heap keys costs zeros : List ℕ} → Roomy r (lent nodes heap keys costs) → zeros ≡ blank costs
+    → Blank r (lent nodes heap keys zeros)
 roomy-blank {costs = costs} {zeros = zeros} y e =
     record {
       room = record { few = y .room .few; words = y .room .words; waits = y .room .waits; spare = y .room .spare };
@@ -59,4 +59,4 @@ gives-run root budget partial {w} q h {r} {m} {new} {c} {e} {old} {list} {j} s g
     (sym (judge-is root budget (r .capacity) partial q
     ∙ ap (λ (x : Bool). solveAs freecell x (shown root) budget (r .capacity) partial) h
     ∙ ap (λ (x : State freecell). answer freecell partial (run freecell budget (r .capacity) x)) (sym (s .begins))
-    ∙ ap (answer freecell partial) (g .ends) ∙ sym (answer-is (shown root) new partial e))) a
+    ∙ ap (answer freecell partial) (g .ends) ∙ sym (answer-is (shown root) r new partial e))) a

@@ -7,14 +7,14 @@ use Prim.Native.Nat.{ℕ, _*_, _≤_}
 use native.Mathlib.Omega.{arith}
 use lib.ListN.{length, take}
 use lib.Signed.{leZ}
-use Rattle.card.specs.Answer.{given, refused}
-use Rattle.board.specs.Judged.{Verdict}
+use Rattle.base.specs.Answer.{given, refused}
+use Rattle.board.specs.Verdict.{Verdict}
 use Rattle.board.specs.Record.{shown}
 use Rattle.board.specs.Inner.{Sized}
 use Rattle.board.specs.declared.Board.{Board}
 use Rattle.board.specs.declared.Examined.the-variants as board
 use Rattle.moves.specs.declared.Move.{Move}
-use Rattle.generate.specs.Asked.{bytesOf}
+use Rattle.moves.specs.Written.{bytesOf}
 use Rattle.search.specs.Solve.{Perhaps, Answer}
 use Rattle.search.specs.Freecell.{freecell, judge}
 use Rattle.search.specs.Played.{finalScore}

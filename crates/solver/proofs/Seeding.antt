@@ -15,12 +15,13 @@ use Rattle.score.specs.Features.{featuresOf}
 use Rattle.score.specs.Scores.{heuristicKey, progressKey}
 use Rattle.score.specs.declared.Features.{Features}
 use Rattle.nodes.specs.Step as nodes
-use Rattle.machine.specs.declared.Room.{Room}
-use Rattle.machine.specs.Memory.{Memory}
-use Rattle.machine.specs.Steps.{Blank, Rooted, begun}
-use Rattle.machine.proofs.Starting.{machine-start, state-start}
-use Rattle.solver.specs.Inner.{Empty, Seeds}
-use Rattle.solver.proofs.Hoping.{hope-is}
+use Rattle.memory.specs.declared.Room.{Room}
+use Rattle.memory.specs.Memory.{Memory, lent}
+use Rattle.memory.specs.Steps.{Blank, Rooted, begun}
+use Rattle.memory.proofs.Starting.{machine-start, state-start}
+use Rattle.solver.specs.Inner.{Seeds}
+use Rattle.children.specs.Inner.{Empty}
+use Rattle.children.proofs.Hoping.{hope-is}
 
 module _ {r : Room} {m : Memory} (b : Blank r m) where
   pub blank-empty : Empty (m .keys) (m .costs) (r .entries)
@@ -40,11 +41,11 @@ module _ {r : Room} {m : Memory} (b : Blank r m) where
       pub seeded : {key slot waits p : ℕ} {words heap keys costs : List ℕ} → key ≡ signatureOf (shown root)
           → Vacant (m .keys) (m .costs) (r .entries) key slot → nodes.Puts (m .nodes) words 0 0 0 slot
           → Stores (m .keys) (m .costs) keys costs (r .entries) slot key 0 → waits ≡ packed hope hope 0 → frontier.Puts (m .heap) heap 0 waits → p ≡ progressKey f
-          → Seeds root r (record { nodes = words; heap = heap; keys = keys; costs = costs }) (record { born = 1; waiting = 1; best = 0; progress = p; pops = 0 })
+          → Seeds root r (lent words heap keys costs) (record { born = 1; waiting = 1; best = 0; progress = p; pops = 0 })
       seeded {key} {slot} {waits} {p} {words} {heap} {keys} {costs} signs v n st w h g = subst (Seeds root r new) (sym counts) (record { machine = machine-start b rooted; pops = refl; begins = state-start b rooted })
         where
           new : Memory
-          new = record { nodes = words; heap = heap; keys = keys; costs = costs }
+          new = lent words heap keys costs
 
           counts : record { born = 1; waiting = 1; best = 0; progress = p; pops = 0 } ≡ begun (shown root)
           counts = ap (λ (x : ℕ). record { born = 1; waiting = 1; best = 0; progress = x; pops = 0 }) (g ∙ ap progressKey e)

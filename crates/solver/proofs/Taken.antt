@@ -11,15 +11,15 @@ use Rattle.board.specs.declared.Board.{Board}
 use Rattle.frontier.specs.Heap.{Takes}
 use Rattle.costs.specs.Entries as costs
 use Rattle.nodes.specs.Step.{slotAt, costAt}
-use Rattle.machine.specs.declared.Room.{Room}
-use Rattle.machine.specs.declared.Counts.{Counts}
-use Rattle.machine.specs.declared.Advance.{Advance}
-use Rattle.machine.specs.declared.Advance.the-variants as advance
-use Rattle.machine.specs.Memory.{Memory}
-use Rattle.machine.specs.Machine.{Machine}
-use Rattle.machine.specs.Steps.{withHeap, popped}
-use Rattle.machine.proofs.Within.{words-there, entry-there, entry-used}
-use Rattle.machine.proofs.Taking.{taken-born}
+use Rattle.memory.specs.declared.Room.{Room}
+use Rattle.memory.specs.declared.Counts.{Counts}
+use Rattle.memory.specs.declared.Advance.{Advance}
+use Rattle.memory.specs.declared.Advance.the-variants as advance
+use Rattle.memory.specs.Memory.{Memory}
+use Rattle.memory.specs.Machine.{Machine}
+use Rattle.memory.specs.Steps.{withHeap, popped}
+use Rattle.memory.proofs.Within.{words-there, entry-there, entry-used}
+use Rattle.memory.proofs.Taking.{taken-born}
 use Rattle.solver.specs.Inner.{Stood, Visits, Advances}
 use Rattle.solver.proofs.Turning.{advance-skips, advance-stood, advance-visits}
 

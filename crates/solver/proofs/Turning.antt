@@ -18,19 +18,19 @@ use Rattle.nodes.specs.Line.{tableTo}
 use Rattle.nodes.proofs.Reaching.{node-shown}
 use Rattle.search.specs.Freecell.{freecell}
 use Rattle.search.specs.Solve.{grownTurn}
-use Rattle.machine.specs.declared.Room.{Room}
-use Rattle.machine.specs.declared.Counts.{Counts}
-use Rattle.machine.specs.declared.Growth.{Growth}
-use Rattle.machine.specs.declared.Growth.the-variants as growth
-use Rattle.machine.specs.declared.Advance.{Advance}
-use Rattle.machine.specs.declared.Advance.the-variants as advance
-use Rattle.machine.specs.Memory.{Memory}
-use Rattle.machine.specs.Machine.{Machine}
-use Rattle.machine.specs.Steps.{withHeap, popped}
-use Rattle.machine.proofs.Within.{holding}
-use Rattle.machine.proofs.Taking.{taken-born, machine-taken}
-use Rattle.machine.proofs.Visiting.{visits-won, visits-deep, visits-on, turns-skip, turn-is}
-use Rattle.solver.specs.Inner.{Stands, Stood, Expands, Visits, Advances}
+use Rattle.memory.specs.declared.Room.{Room}
+use Rattle.memory.specs.declared.Counts.{Counts}
+use Rattle.memory.specs.declared.Growth.{Growth}
+use Rattle.memory.specs.declared.Growth.the-variants as growth
+use Rattle.memory.specs.declared.Advance.{Advance}
+use Rattle.memory.specs.declared.Advance.the-variants as advance
+use Rattle.memory.specs.Memory.{Memory}
+use Rattle.memory.specs.Machine.{Machine}
+use Rattle.memory.specs.Steps.{withHeap, popped}
+use Rattle.memory.proofs.Taking.{taken-born, machine-taken}
+use Rattle.memory.proofs.Visiting.{visits-won, visits-deep, visits-on, turns-skip, turn-is}
+use Rattle.children.specs.Inner.{Stands, Expands}
+use Rattle.solver.specs.Inner.{Stood, Visits, Advances}
 
 module _ {root : Board} {r : Room} {m : Memory} {c : Counts} {i : ℕ} (s : Stood root r m c i) {b : Board} (e : b ≡ boardOf (tableTo (shown root) (m .nodes) i)) (sound : Sound b) where
   shows : shown b ≡ tableTo (shown root) (m .nodes) i
@@ -44,13 +44,13 @@ module _ {root : Board} {r : Room} {m : Memory} {c : Counts} {i : ℕ} (s : Stoo
     won-is = sym (q ∙ ap wonOn (shown-foundation b) ∙ ap (λ (t : Table). wonOn (t .foundation)) shows)
 
     pub visit-won : w ≡ true → Visits root r m m c i (advance.WonBy i c)
-    visit-won h = record { went = (s .born, (s .machine .nodes, holding (s .machine))); turns = visits-won (s .machine) i (s .born) (s .current) (won-is ∙ h) }
+    visit-won h = record { went = (s .born, s .machine .nodes); turns = visits-won (s .machine) i (s .born) (s .current) (won-is ∙ h) }
 
     module _ (h : w ≡ false) {cost : ℕ} (k : cost ≡ costAt (m .nodes) i) where
       pub visit-deep : 200 ≤ cost → Visits root r m m c i (advance.Again c)
       visit-deep l = record { went = (s .machine, refl); turns = visits-deep (s .machine) i (s .born) (s .current) (won-is ∙ h) (omega arith) }
 
-      pub visit-full : {new : Memory} → cost < 200 → Expands root r m new c i growth.Full → Visits root r m new c i (advance.Stuck (c .pops))
+      pub visit-full : {new : Memory} → cost < 200 → Expands root r m new c i growth.OutOfNodes → Visits root r m new c i (advance.OutOfNodes (c .pops))
       visit-full l x =
           record {
             went = x .grew;
@@ -82,7 +82,7 @@ module _ {root : Board} (begins : Sound root) {r : Room} {m : Memory} {c : Count
 -- ---- an expansion, when it is known how it ended
 
 module _ {root : Board} {r : Room} {m new : Memory} {c : Counts} {i : ℕ} {g : Growth} (x : Expands root r m new c i g) where
-  pub full-expands : g ≡ growth.Full → Expands root r m new c i growth.Full
+  pub full-expands : g ≡ growth.OutOfNodes → Expands root r m new c i growth.OutOfNodes
   full-expands q = subst (Expands root r m new c i) q x
 
   pub grown-expands : {d : Counts} → g ≡ growth.Grown d → Expands root r m new c i (growth.Grown d)

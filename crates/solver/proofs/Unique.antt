@@ -4,36 +4,31 @@ use mathlib.Core.Bool.{Bool, cond}
 use mathlib.Core.List.{List}
 use Prim.Native.Nat.{ℕ}
 use lib.Dec.{eqb}
-use Rattle.board.specs.Refusal.{numberOf}
+use Rattle.board.specs.Refusal.{numberOf, isSaid}
 use Rattle.board.specs.declared.Board.{Board}
 use Rattle.board.specs.declared.Refusal.{Refusal}
-use Rattle.board.specs.declared.Refusal.the-variants as refusal
-use Rattle.board.proofs.Unique.{whyOf, why-law}
-use Rattle.machine.specs.Memory.{Memory}
+use Rattle.board.proofs.Unique.{whyOf, why-law, never-said}
+use Rattle.memory.specs.Memory.{Memory, lent}
 use Rattle.solver.specs.Searched.{Outcome, outcome, saidNumber, searched}
 use Rattle.solver.specs.declared.Said.{Said}
-use Rattle.solver.specs.declared.Said.the-variants.{Won, BestAtLimit, BestExhausted, Limit, Exhausted, NoRoom, Refused}
+use Rattle.solver.specs.declared.Said.the-variants.{Won, BestAtLimit, BestExhausted, Limit, Exhausted, OutOfNodes, Refused}
 use Rattle.solver.specs.declared.Judged.{Judged}
 use Rattle.solver.specs.Told.{Call}
 
 -- what is said with a number
 saidOf : ℕ → Said
-saidOf n = cond (eqb n 0) Won (cond (eqb n 1) BestAtLimit (cond (eqb n 2) BestExhausted (cond (eqb n 3) Limit (cond (eqb n 4) Exhausted (cond (eqb n 23) NoRoom (Refused (whyOf n)))))))
+saidOf n =
+    cond (isSaid n)
+    (cond (eqb n 0) Won (cond (eqb n 1) BestAtLimit (cond (eqb n 2) BestExhausted (cond (eqb n 3) Limit (cond (eqb n 4) Exhausted OutOfNodes)))))
+    (Refused (whyOf n))
 
+-- no refusal has a number of these
 why-said : (w : Refusal) → saidOf (numberOf w) ≡ Refused w
 unfolding saidOf
-why-said refusal.WrongLength = ap Refused (why-law refusal.WrongLength)
-why-said refusal.WrongVersion = ap Refused (why-law refusal.WrongVersion)
-why-said refusal.WrongShape = ap Refused (why-law refusal.WrongShape)
-why-said refusal.NoCard = ap Refused (why-law refusal.NoCard)
-why-said refusal.CardTwice = ap Refused (why-law refusal.CardTwice)
-why-said refusal.CardMissing = ap Refused (why-law refusal.CardMissing)
-why-said refusal.NoDeck = ap Refused (why-law refusal.NoDeck)
-why-said refusal.OverBudget = ap Refused (why-law refusal.OverBudget)
-why-said refusal.NoRoom = ap Refused (why-law refusal.NoRoom)
-why-said refusal.NoNode = ap Refused (why-law refusal.NoNode)
-why-said refusal.OutOfRange = ap Refused (why-law refusal.OutOfRange)
-why-said refusal.WrongList = ap Refused (why-law refusal.WrongList)
+why-said w =
+    let n = numberOf w in
+    ap (λ (b : Bool). cond b (cond (eqb n 0) Won (cond (eqb n 1) BestAtLimit (cond (eqb n 2) BestExhausted (cond (eqb n 3) Limit (cond (eqb n 4) Exhausted OutOfNodes))))) (Refused (whyOf n))) (never-said w)
+    ∙ ap Refused (why-law w)
 
 said-law : (s : Said) → saidOf (saidNumber s) ≡ s
 unfolding saidOf
@@ -42,7 +37,7 @@ said-law BestAtLimit = refl
 said-law BestExhausted = refl
 said-law Limit = refl
 said-law Exhausted = refl
-said-law NoRoom = refl
+said-law OutOfNodes = refl
 said-law (Refused w) = why-said w
 
 -- of `solve`: what is handed back and every lent byte are determined
@@ -65,5 +60,5 @@ module _ {b : Board} (x y : Call b) where
         sym (ap (λ (f : Said). let j : Judged = record { said = f; pops = x .result .pops; moves = x .result .moves } in j) (said-law (x .result .said)))
             ∙ ap (λ (v : Outcome). let j : Judged = record { said = saidOf (v .number); pops = v .pops; moves = v .moves } in j) o
             ∙ ap (λ (f : Said). let j : Judged = record { said = f; pops = y .result .pops; moves = y .result .moves } in j) (said-law (y .result .said)),
-        (ap (λ (v : Outcome). let m : Memory = record { nodes = v .nodes; heap = v .heap; keys = v .keys; costs = v .costs } in m) o, ap (λ (v : Outcome). v .list) o),
+        (ap (λ (v : Outcome). let m : Memory = lent (v .nodes) (v .heap) (v .keys) (v .costs) in m) o, ap (λ (v : Outcome). v .list) o),
       )

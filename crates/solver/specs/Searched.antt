@@ -4,19 +4,19 @@ use mathlib.Core.List.{List, []}
 use Prim.Native.Nat.{ℕ}
 use lib.Dec.{leb}
 use lib.ListN.{length}
-use Rattle.card.specs.Answer.{given, refused, unless}
-use Rattle.board.specs.Judged.{Verdict, fine, after}
+use Rattle.base.specs.Answer.{given, refused, unless}
+use Rattle.board.specs.Verdict.{Verdict, fine, after}
 use Rattle.board.specs.Record.{examined, shown}
 use Rattle.board.specs.Refusal.{numberOf}
 use Rattle.board.specs.declared.Board.{Board}
 use Rattle.moves.specs.declared.Move.{Move}
-use Rattle.generate.specs.Asked.{written}
-use Rattle.blank.specs.Blank.{blank}
+use Rattle.moves.specs.Written.{written, listRoom}
+use Rattle.base.specs.Blank.{blank}
 use Rattle.search.specs.Freecell.{freecell, judge}
 use Rattle.search.specs.Solve.{Perhaps, none, some, Answer}
 use Rattle.solver.specs.Capacity.{capacityOf}
 use Rattle.solver.specs.declared.Said.{Said}
-use Rattle.solver.specs.declared.Said.the-variants.{Won, BestAtLimit, BestExhausted, Limit, Exhausted, NoRoom, Refused}
+use Rattle.solver.specs.declared.Said.the-variants.{Won, BestAtLimit, BestExhausted, Limit, Exhausted, OutOfNodes, Refused}
 use Rattle.solver.specs.declared.Judged.{Judged}
 
 -- SCOPE.md's number of each case
@@ -26,7 +26,7 @@ saidNumber BestAtLimit = 1
 saidNumber BestExhausted = 2
 saidNumber Limit = 3
 saidNumber Exhausted = 4
-saidNumber NoRoom = 23
+saidNumber OutOfNodes = 23
 saidNumber (Refused why) = numberOf why
 
 -- all that a search hands back and leaves: its number, its pops, the moves of its list, and every lent byte
@@ -49,10 +49,14 @@ abbrev pub movesOf : Perhaps (List Move) → List Move
 movesOf none = []
 movesOf (some l) = l
 
+-- the largest budget
+abbrev pub mostPops : ℕ
+mostPops = 1000000
+
 -- why a search is refused, in this order
 unfoldable pub accepted : Board → ℕ → ℕ → ℕ → Verdict
 accepted b budget capacity lent =
-    after (examined b) (unless (leb budget 1000000) 20 (unless (leb 1000 lent) 21 (unless (leb 1 capacity) 22 fine)))
+    after (examined b) (unless (leb budget mostPops) 20 (unless (leb listRoom lent) 21 (unless (leb 1 capacity) 22 fine)))
 
 module _ (nodes heap keys costs list : List ℕ) where
   -- a refusal changes nothing

@@ -5,13 +5,13 @@ use mathlib.Core.List.{List}
 use mathlib.Core.Logic.{_⊎_}
 use Prim.Native.Nat.{ℕ, _*_, _≤_}
 use lib.ListN.{length, take, drop}
-use Rattle.board.specs.Judged.{Verdict, fine}
+use Rattle.board.specs.Verdict.{Verdict, fine}
 use Rattle.board.specs.declared.Board.{Board}
 use Rattle.moves.specs.declared.Move.{Move}
-use Rattle.generate.specs.Asked.{bytesOf}
-use Rattle.blank.specs.Blank.{blank}
+use Rattle.moves.specs.Written.{bytesOf}
+use Rattle.base.specs.Blank.{blank}
 use Rattle.search.specs.Played.{PlayedOut}
-use Rattle.machine.specs.Memory.{Memory}
+use Rattle.memory.specs.Memory.{Memory}
 use Rattle.solver.specs.Capacity.{capacityOf}
 use Rattle.solver.specs.Searched.{saidNumber, outcome, accepted, searched}
 use Rattle.solver.specs.declared.Judged.{Judged}

@@ -8,21 +8,20 @@ ghost use Rattle.board.specs.Record.{shown};
 ghost use Rattle.board.specs.Inner.{Sound};
 ghost use Rattle.nodes.specs.Nodes.{Nodes};
 ghost use Rattle.nodes.specs.Line.{lineTo};
-ghost use Rattle.blank.specs.Blank.{blank};
-ghost use Rattle.machine.specs.Traced.{Holding};
-ghost use Rattle.solver.specs.Inner.{Closed, Gives, lineOr, answerBy, bornBy};
+ghost use Rattle.solver.specs.Inner.{Closed, Gives, lineOr, answerBy};
+ghost use Rattle.moves.specs.Written.{listRoom};
 use crate::Judged;
 use crate::Said;
 use board::Board;
-use machine::Counts;
-use machine::Ended;
+use memory::Counts;
+use memory::Ended;
 
 // The line of node i is the list.
 fn with_line(root: Board, said: Said, i: usize, c: Counts, nodes: &[u32], list: &mut [u8]) -> Judged
     requires { ⌜ Sound root ⌝ }
     requires { ⌜ Nodes (shown root) (now nodes) (c .born) ⌝ }
     requires { ⌜ i < c .born ⌝ }
-    requires { ⌜ 1000 ≤ length (now list) ⌝ }
+    requires { ⌜ listRoom ≤ length (now list) ⌝ }
     ensures { λ r. ⌜ Gives (lineOr true said said (lineTo (shown root) (now (nodes .entry)) i) (c .pops)) (now (list .entry)) (now (list .exit)) r ⌝ }
 {
     let moves = lines::write_line(root, nodes, c.born, i, list);
@@ -43,7 +42,7 @@ fn best_line(
     requires { ⌜ Sound root ⌝ }
     requires { ⌜ Nodes (shown root) (now nodes) (c .born) ⌝ }
     requires { ⌜ c .best < c .born ⌝ }
-    requires { ⌜ 1000 ≤ length (now list) ⌝ }
+    requires { ⌜ listRoom ≤ length (now list) ⌝ }
     ensures { λ r. ⌜ Gives (lineOr (partial && not (eqb (c .best) 0)) with without (lineTo (shown root) (now (nodes .entry)) (c .best)) (c .pops)) (now (list .entry)) (now (list .exit)) r ⌝ }
 {
     if partial {
@@ -63,7 +62,7 @@ fn best_line(
 pub fn finish(root: Board, partial: bool, e: Ended, nodes: &[u32], list: &mut [u8]) -> Judged
     requires { ⌜ Sound root ⌝ }
     requires { ⌜ Closed (shown root) (now nodes) e ⌝ }
-    requires { ⌜ 1000 ≤ length (now list) ⌝ }
+    requires { ⌜ listRoom ≤ length (now list) ⌝ }
     ensures { λ r. ⌜ Gives (answerBy (shown root) (now (nodes .entry)) partial e) (now (list .entry)) (now (list .exit)) r ⌝ }
 {
     match e {
@@ -86,35 +85,10 @@ pub fn finish(root: Board, partial: bool, e: Ended, nodes: &[u32], list: &mut [u
             nodes,
             list,
         ),
-        Ended::NoRoom { pops } => Judged {
-            said: Said::NoRoom,
+        Ended::OutOfNodes { pops } => Judged {
+            said: Said::OutOfNodes,
             pops,
             moves: 0,
         },
-    }
-}
-
-// How many nodes were born when a search ended.
-pub fn born_by(capacity: usize, e: Ended) -> usize
-    ensures { λ r. ⌜ r ≡ bornBy capacity e ⌝ }
-{
-    match e {
-        Ended::Won { node, counts } => counts.born,
-        Ended::Limit(c) => c.born,
-        Ended::Exhausted(c) => c.born,
-        Ended::NoRoom { pops } => capacity,
-    }
-}
-
-// The entries of the first n nodes are free again, and with them the whole table: work by what was used, not by what was lent.
-pub fn release(nodes: &[u32], n: usize, costs: &mut [u8])
-    requires { ⌜ Holding (now nodes) (now costs) n ⌝ }
-    ensures { λ r. ⌜ now (costs .exit) ≡ blank (now (costs .entry)) ⌝ }
-{
-    let mut i = 0;
-    while i < n {
-        let slot = nodes::words::slot_of(nodes, i);
-        costs[slot] = 0;
-        i += 1;
     }
 }

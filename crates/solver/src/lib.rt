@@ -5,20 +5,24 @@ ghost use lib.ListN.{length};
 ghost use Rattle.board.specs.Record.{shown};
 ghost use Rattle.board.specs.Inner.{Sound};
 ghost use Rattle.solver.specs.declared.Said.the-variants.{Refused};
-ghost use Rattle.blank.specs.Blank.{blank};
 ghost use Rattle.search.specs.Freecell.{judge};
 ghost use Rattle.solver.specs.Capacity.{capacityOf, entriesOf};
-ghost use Rattle.solver.specs.Searched.{saidNumber, outcome, searched};
+ghost use Rattle.solver.specs.Searched.{saidNumber, outcome, searched, mostPops};
 ghost use Rattle.solver.specs.Inner.{Accepts, Roomy, Gives};
+ghost use Rattle.memory.specs.Memory.{lent};
+ghost use Rattle.moves.specs.Written.{listRoom};
 use board::Board;
 use board::Examined;
 use board::Refusal;
-use board::judge::inspect;
-use machine::Room;
+use board::verdict::inspect;
+use memory::Room;
+use moves::LIST_ROOM;
 
 mod finish;
-mod grow;
 mod run;
+
+// The largest budget.
+pub const MOST_POPS: usize = 1_000_000;
 
 // How a search was answered; specs/Searched.antt has SCOPE.md's number for each.
 pub enum Said {
@@ -27,7 +31,7 @@ pub enum Said {
     BestExhausted,
     Limit,
     Exhausted,
-    NoRoom,
+    OutOfNodes,
     Refused(Refusal),
 }
 
@@ -36,12 +40,6 @@ pub struct Judged {
     pub said: Said,
     pub pops: usize,
     pub moves: usize,
-}
-
-// A child is dropped, or its cost goes to an entry of the table.
-pub enum Choice {
-    Dropped,
-    Slot(usize),
 }
 
 // SCOPE.md's number of an answer.
@@ -54,7 +52,7 @@ pub fn number(said: Said) -> u8
         Said::BestExhausted => 2,
         Said::Limit => 3,
         Said::Exhausted => 4,
-        Said::NoRoom => 23,
+        Said::OutOfNodes => 23,
         Said::Refused(why) => board::number(why),
     }
 }
@@ -111,13 +109,12 @@ fn judge_at(
     list: &mut [u8],
 ) -> Judged
     requires { ⌜ Sound b ⌝ }
-    requires { ⌜ budget ≤ 1000000 ⌝ }
-    requires { ⌜ Roomy room (record { nodes = now nodes; heap = now heap; keys = now keys; costs = now costs }) ⌝ }
-    requires { ⌜ 1000 ≤ length (now list) ⌝ }
+    requires { ⌜ budget ≤ mostPops ⌝ }
+    requires { ⌜ Roomy room (lent (now nodes) (now heap) (now keys) (now costs)) ⌝ }
+    requires { ⌜ listRoom ≤ length (now list) ⌝ }
     ensures { λ r. ⌜ Gives (judge (shown b) budget (room .capacity) partial) (now (list .entry)) (now (list .exit)) r ⌝ }
-    ensures { λ r. ⌜ now (costs .exit) ≡ blank (now (costs .entry)) ⌝ }
 {
-    blank::clear_bytes(costs);
+    base::blank::clear_bytes(costs);
     if questions::won_at(&b.foundation) {
         return Judged {
             said: Said::Won,
@@ -127,9 +124,7 @@ fn judge_at(
     }
     let c = run::seed(b, room, nodes, heap, keys, costs);
     let e = run::go(b, budget, room, c, nodes, heap, keys, costs);
-    let r = finish::finish(b, partial, e, nodes, list);
-    finish::release(nodes, finish::born_by(room.capacity, e), costs);
-    r
+    finish::finish(b, partial, e, nodes, list)
 }
 
 // Why a search is refused, in this order: 12 to 15, 20, 21, 22.
@@ -139,11 +134,11 @@ fn examine(b: Board, budget: usize, capacity: usize, lent: usize) -> Examined
     if let Examined::Refused(why) = inspect(&b.cells, &b.foundation, &b.counts, &b.tableau) {
         return Examined::Refused(why);
     }
-    if 1000000 < budget {
+    if MOST_POPS < budget {
         return Examined::Refused(Refusal::OverBudget);
     }
-    if lent < 1000 {
-        return Examined::Refused(Refusal::NoRoom);
+    if lent < LIST_ROOM {
+        return Examined::Refused(Refusal::LittleRoom);
     }
     if capacity == 0 {
         return Examined::Refused(Refusal::NoNode);
@@ -170,8 +165,9 @@ pub fn solve(
     }
     let room = room_for(capacity);
     let r = judge_at(b, budget, partial, room, nodes, heap, keys, costs, list);
-    blank::clear_words(nodes);
-    blank::clear_longs(heap);
-    blank::clear_longs(keys);
+    base::blank::clear_words(nodes);
+    base::blank::clear_longs(heap);
+    base::blank::clear_longs(keys);
+    base::blank::clear_bytes(costs);
     r
 }

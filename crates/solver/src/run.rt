@@ -4,17 +4,20 @@ ghost use Prim.Native.Nat.{_<_, _≤_};
 ghost use Rattle.board.specs.Record.{shown};
 ghost use Rattle.board.specs.Inner.{Sound};
 ghost use Rattle.nodes.specs.Step.{costAt};
-ghost use Rattle.machine.specs.Machine.{Machine};
-ghost use Rattle.machine.specs.Steps.{Blank, popped};
+ghost use Rattle.memory.specs.Machine.{Machine};
+ghost use Rattle.memory.specs.Steps.{Blank, popped};
 ghost use Rattle.costs.specs.Promises.{Vacant};
-ghost use Rattle.solver.specs.Inner.{Empty, Seeds, Stood, Visits, Advances, Goes, endedBy};
-use crate::grow;
+ghost use Rattle.solver.specs.Inner.{Seeds, Stood, Visits, Advances, Goes, endedBy};
+ghost use Rattle.children.specs.Inner.{Empty};
+ghost use Rattle.memory.specs.Memory.{lent};
+ghost use Rattle.solver.specs.Searched.{mostPops};
 use board::Board;
-use machine::Advance;
-use machine::Counts;
-use machine::Ended;
-use machine::Growth;
-use machine::Room;
+use memory::Advance;
+use memory::Counts;
+use memory::Ended;
+use memory::Growth;
+use memory::Room;
+use moves::MOST_MOVES;
 
 // The first entry that a table with nothing in it gives to a key.
 fn first_slot<'a>(keys: &'a [u64], costs: &'a [u8], entries: usize, key: u64) -> usize
@@ -38,8 +41,8 @@ pub fn seed(
     costs: &mut [u8],
 ) -> Counts
     requires { ⌜ Sound root ⌝ }
-    requires { ⌜ Blank room (record { nodes = now nodes; heap = now heap; keys = now keys; costs = now costs }) ⌝ }
-    ensures { λ r. ⌜ Seeds root room (record { nodes = now (nodes .exit); heap = now (heap .exit); keys = now (keys .exit); costs = now (costs .exit) }) r ⌝ }
+    requires { ⌜ Blank room (lent (now nodes) (now heap) (now keys) (now costs)) ⌝ }
+    ensures { λ r. ⌜ Seeds root room (lent (now (nodes .exit)) (now (heap .exit)) (now (keys .exit)) (now (costs .exit))) r ⌝ }
 {
     let f = score::measure::compute_features(
         &root.cells,
@@ -74,19 +77,19 @@ fn visit(
     keys: &mut [u64],
     costs: &mut [u8],
 ) -> Advance
-    requires { ⌜ Stood root room (record { nodes = now nodes; heap = now heap; keys = now keys; costs = now costs }) c i ⌝ }
+    requires { ⌜ Stood root room (lent (now nodes) (now heap) (now keys) (now costs)) c i ⌝ }
     requires { ⌜ cost ≡ costAt (now nodes) i ⌝ }
-    ensures { λ r. ⌜ Visits root room (record { nodes = now (nodes .entry); heap = now (heap .entry); keys = now (keys .entry); costs = now (costs .entry) }) (record { nodes = now (nodes .exit); heap = now (heap .exit); keys = now (keys .exit); costs = now (costs .exit) }) c i r ⌝ }
+    ensures { λ r. ⌜ Visits root room (lent (now (nodes .entry)) (now (heap .entry)) (now (keys .entry)) (now (costs .entry))) (lent (now (nodes .exit)) (now (heap .exit)) (now (keys .exit)) (now (costs .exit))) c i r ⌝ }
 {
     let b = nodes::path::board_of(root, nodes, c.born, i);
     if questions::won_at(&b.foundation) {
         return Advance::WonBy { node: i, counts: c };
     }
-    if 200 <= cost {
+    if MOST_MOVES <= cost {
         return Advance::Again(c);
     }
-    match grow::expand(root, i, cost, b, room, c, nodes, heap, keys, costs) {
-        Growth::Full => Advance::Stuck { pops: c.pops },
+    match children::expand(root, i, cost, b, room, c, nodes, heap, keys, costs) {
+        Growth::OutOfNodes => Advance::OutOfNodes { pops: c.pops },
         Growth::Grown(next) => Advance::Again(next),
     }
 }
@@ -94,7 +97,7 @@ fn visit(
 // The counts after a node was taken.
 fn count_pop(c: Counts) -> Counts
     requires { ⌜ 0 < c .waiting ⌝ }
-    requires { ⌜ c .pops ≤ 1000000 ⌝ }
+    requires { ⌜ c .pops ≤ mostPops ⌝ }
     ensures { λ r. ⌜ r ≡ popped c ⌝ }
 {
     Counts {
@@ -117,17 +120,17 @@ fn advance(
     costs: &mut [u8],
 ) -> Advance
     requires { ⌜ Sound root ⌝ }
-    requires { ⌜ Machine (shown root) room (record { nodes = now nodes; heap = now heap; keys = now keys; costs = now costs }) c ⌝ }
+    requires { ⌜ Machine (shown root) room (lent (now nodes) (now heap) (now keys) (now costs)) c ⌝ }
     requires { ⌜ 0 < c .waiting ⌝ }
-    requires { ⌜ c .pops ≤ 1000000 ⌝ }
-    ensures { λ r. ⌜ Advances root room (record { nodes = now (nodes .entry); heap = now (heap .entry); keys = now (keys .entry); costs = now (costs .entry) }) (record { nodes = now (nodes .exit); heap = now (heap .exit); keys = now (keys .exit); costs = now (costs .exit) }) c r ⌝ }
+    requires { ⌜ c .pops ≤ mostPops ⌝ }
+    ensures { λ r. ⌜ Advances root room (lent (now (nodes .entry)) (now (heap .entry)) (now (keys .entry)) (now (costs .entry))) (lent (now (nodes .exit)) (now (heap .exit)) (now (keys .exit)) (now (costs .exit))) c r ⌝ }
 {
     let key = frontier::take_least(heap, c.waiting);
     let i = frontier::key::number_of(key);
     let next = count_pop(c);
     let cost = nodes::words::cost_of(nodes, i);
     let slot = nodes::words::slot_of(nodes, i);
-    let known = card::wide(costs::cost_at(costs, slot));
+    let known = base::wide(costs::cost_at(costs, slot));
     if known != cost {
         return Advance::Again(next);
     }
@@ -141,7 +144,7 @@ fn ended(a: Advance) -> Ended
     match a {
         Advance::Again(c) => Ended::Limit(c),
         Advance::WonBy { node, counts } => Ended::Won { node, counts },
-        Advance::Stuck { pops } => Ended::NoRoom { pops },
+        Advance::OutOfNodes { pops } => Ended::OutOfNodes { pops },
     }
 }
 
@@ -157,10 +160,10 @@ pub fn go(
     costs: &mut [u8],
 ) -> Ended
     requires { ⌜ Sound root ⌝ }
-    requires { ⌜ Machine (shown root) room (record { nodes = now nodes; heap = now heap; keys = now keys; costs = now costs }) c ⌝ }
+    requires { ⌜ Machine (shown root) room (lent (now nodes) (now heap) (now keys) (now costs)) c ⌝ }
     requires { ⌜ c .pops ≡ 0 ⌝ }
-    requires { ⌜ budget ≤ 1000000 ⌝ }
-    ensures { λ r. ⌜ Goes root room budget (record { nodes = now (nodes .entry); heap = now (heap .entry); keys = now (keys .entry); costs = now (costs .entry) }) (record { nodes = now (nodes .exit); heap = now (heap .exit); keys = now (keys .exit); costs = now (costs .exit) }) c r ⌝ }
+    requires { ⌜ budget ≤ mostPops ⌝ }
+    ensures { λ r. ⌜ Goes root room budget (lent (now (nodes .entry)) (now (heap .entry)) (now (keys .entry)) (now (costs .entry))) (lent (now (nodes .exit)) (now (heap .exit)) (now (keys .exit)) (now (costs .exit))) c r ⌝ }
 {
     let mut counts = c;
     let mut left = budget;

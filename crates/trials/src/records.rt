@@ -1,5 +1,6 @@
 // A record from its 432 bytes: cells, foundation counts, column counts, and the columns' room.
 use board::Board;
+use board::CODES;
 
 fn byte_at(bytes: &[u8], at: usize) -> u8 {
     if at < bytes.len() {
@@ -32,10 +33,10 @@ fn counts(bytes: &[u8]) -> [u8; 8] {
     ]
 }
 
-fn tableau(bytes: &[u8]) -> [u8; 416] {
-    let mut codes = [0u8; 416];
+fn tableau(bytes: &[u8]) -> [u8; CODES] {
+    let mut codes = [0u8; CODES];
     let mut p = 0;
-    while p < 416 {
+    while p < CODES {
         codes[p] = byte_at(bytes, 16 + p);
         p += 1;
     }

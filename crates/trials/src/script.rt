@@ -37,7 +37,7 @@ fn decimal(digits: &[u8]) -> usize {
         if 1844674407370955160 < n {
             return usize::MAX;
         }
-        let digit = card::wide(digits[i] % 16);
+        let digit = base::wide(digits[i] % 16);
         n = n * 10 + digit;
         i += 1;
     }

@@ -20,7 +20,7 @@ fn judged(
     let said = r.said;
     let pops = r.pops;
     let moves = r.moves;
-    say::number(card::wide(solver::number(said)));
+    say::number(base::wide(solver::number(said)));
     say::number(pops);
     say::number(moves);
     say::number(say::dirty_words(nodes));

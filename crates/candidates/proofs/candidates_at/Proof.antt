@@ -6,7 +6,7 @@ use Rattle.candidates.proofs.candidates_at.Statement.{statement}
 use Rattle.candidates.proofs.candidates_at.Tie as tie
 
 compute-features-requires : tie.Need-compute-features-requires
-compute-features-requires c κs = c .before .before .before .before .before .before .pre .0
+compute-features-requires c κs = let p6 = c .before .before .before .before .before .before in p6 .pre .0
 
 slice-aggregate-tried-at : tie.Need-slice-aggregate-tried-at
 slice-aggregate-tried-at c = search needs

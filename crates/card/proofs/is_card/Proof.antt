@@ -5,7 +5,7 @@ use Prim.Native.Nat.{ℕ, _/_, _%_}
 use lib.Dec.{leb, ltb}
 use borrow.Author.Tests.{lt-leb}
 use Rattle.card.specs.Card.{isCard, isValue}
-use Rattle.card.proofs.Words.{first-fails, second-fails}
+use Rattle.base.proofs.Words.{first-fails, second-fails}
 use Rattle.card.proofs.Codes.{is-value}
 use Rattle.card.proofs.is_card.Statement.{statement}
 use Rattle.card.proofs.is_card.Tie as tie

@@ -16,19 +16,19 @@ abbrev μ-loop : tie.MeasureT-loop
 μ-loop keys costs from end k i₀ i = end - i
 
 loop-holds : tie.Need-loop-holds Inv-loop μ-loop
-loop-holds c = (c .before .before .pre .rising, passed-none (c .before .before .args .keys .now) (c .before .before .args .costs .now) (c .before .before .args .from) (c .before .before .args .k))
+loop-holds c = let p2 = c .before .before in (p2 .pre .rising, passed-none (p2 .args .keys .now) (p2 .args .costs .now) (p2 .args .from) (p2 .args .k))
 
 shared-slice-read-if1 : tie.Need-shared-slice-read-if1 Inv-loop μ-loop
 shared-slice-read-if1 c = search needs
 
 returns : tie.Need-returns Inv-loop μ-loop
-returns c = scans-free (c .before .before .before .loop .inv .1) (c .before .before .loop-test .taken) (c .if1 .taken)
+returns c = let p2 = c .before .before in let p3 = p2 .before in scans-free (p3 .loop .inv .1) (p2 .loop-test .taken) (c .if1 .taken)
 
 is-for-requires : tie.Need-is-for-requires Inv-loop μ-loop
 is-for-requires c κs = search needs
 
 returns-2 : tie.Need-returns-2 Inv-loop μ-loop
-returns-2 c = scans-held (c .before .before .before .before .before .loop .inv .1) (c .before .before .before .before .loop-test .taken) (sym (c .before .is-for .ensures) ∙ c .if2 .taken)
+returns-2 c = let p4 = c .before .before .before .before in let p5 = p4 .before in scans-held (p5 .loop .inv .1) (p4 .loop-test .taken) (sym (c .before .is-for .ensures) ∙ c .if2 .taken)
 
 add-i : tie.Need-add-i Inv-loop μ-loop
 add-i c = search needs

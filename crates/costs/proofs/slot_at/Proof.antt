@@ -8,10 +8,10 @@ shared-slice-read-if1 : tie.Need-shared-slice-read-if1
 shared-slice-read-if1 c = search needs
 
 returns : tie.Need-returns
-returns c = slot-free (c .before .before .args .costs .now) (c .before .before .args .i) (c .if1 .taken)
+returns c = let p2 = c .before .before in slot-free (p2 .args .costs .now) (p2 .args .i) (c .if1 .taken)
 
 returns-2 : tie.Need-returns-2
-returns-2 c = slot-taken (c .before .before .args .costs .now) (c .before .before .args .i) (c .if1 .left)
+returns-2 c = let p2 = c .before .before in slot-taken (p2 .args .costs .now) (p2 .args .i) (c .if1 .left)
 
 pub slot-at-spec : {M : Type 1} → statement M
 slot-at-spec = tie.close (tie.spec shared-slice-read-if1 returns returns-2)

@@ -16,14 +16,14 @@ enum-known-why : tie.Need-enum-known-why
 enum-known-why c = search needs
 
 returns : tie.Need-returns
-returns c = finds-no-board (c .before .before .before .inspect .ensures) (c .before .why .given .1)
+returns c = let p3 = c .before .before .before in finds-no-board (p3 .inspect .ensures) (c .before .why .given .1)
 
 enum-told : tie.Need-enum-told
 enum-told c = search needs
 
 returns-2 : tie.Need-returns-2
-returns-2 c =
-    finds-no-room (c .before .before .before .inspect .ensures) (c .before .enum-told .given .1) refl (omega (arith, c .if1 .taken))
+returns-2 c = let p3 = c .before .before .before in
+    finds-no-room (p3 .inspect .ensures) (c .before .enum-told .given .1) refl (omega (arith, c .if1 .taken))
 
 find-at-requires : tie.Need-find-at-requires
 find-at-requires c κs =
@@ -33,8 +33,8 @@ same-length : tie.Need-same-length
 same-length c = search needs
 
 returns-3 : tie.Need-returns-3
-returns-3 c =
-    finds-all (c .before .before .before .before .before .before .before .before .before .before .before .before .inspect .ensures) (c .before .before .before .before .before .before .before .before .before .before .enum-told .given .1) (omega (arith, c .before .before .before .before .before .before .before .before .before .if1 .left)) (c .before .before .find-at .ensures)
+returns-3 c = let p2 = c .before .before in let p9 = p2 .before .before .before .before .before .before .before in let p10 = p9 .before in let p12 = p10 .before .before in
+    finds-all (p12 .inspect .ensures) (p10 .enum-told .given .1) (omega (arith, p9 .if1 .left)) (p2 .find-at .ensures)
 
 pub find-spec : {M : Type 1} → statement M
 find-spec =

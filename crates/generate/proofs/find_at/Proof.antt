@@ -1,7 +1,7 @@
 -- What `find_at` leaves to be shown: place after place.
 use native.Mathlib.Omega.{arith}
 use Prim.Native.Nat.{_-_}
-use Rattle.board.specs.Record.{shown}
+use Rattle.board.specs.Record.{shown, laid}
 use Rattle.generate.specs.Found.{sourceCount, foundFrom, found}
 use Rattle.generate.proofs.Writing.{Walked, walk-start, walk-room, walk-on, walk-long, walk-end}
 use borrow.Author.Needs.{needs}
@@ -10,7 +10,7 @@ use Rattle.generate.proofs.find_at.Tie as tie
 
 abbrev Inv-loop : tie.InvT-loop
 Inv-loop way cells foundation counts tableau out₀ n last made₀ i₀ out made i =
-    Walked (foundFrom (shown (record { cells = cells; foundation = foundation; counts = counts; tableau = tableau })) way) (sourceCount way) out₀ n out made i
+    Walked (foundFrom (shown (laid cells foundation counts tableau)) way) (sourceCount way) out₀ n out made i
 
 abbrev μ-loop : tie.MeasureT-loop
 μ-loop way cells foundation counts tableau out₀ n last made₀ i₀ out made i = last - i

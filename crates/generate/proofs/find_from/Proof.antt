@@ -22,8 +22,8 @@ same-length : tie.Need-same-length
 same-length c = search needs
 
 returns : tie.Need-returns
-returns c =
-    kind-adds _ _ (c .before .before .before .before .enum-told .given .1) (c .before .before .runs-from .ensures)
+returns c = let p2 = c .before .before in let p4 = p2 .before .before in
+    kind-adds _ _ (p4 .enum-told .given .1) (p2 .runs-from .ensures)
 
 same-length-2 : tie.Need-same-length-2
 same-length-2 c = search needs

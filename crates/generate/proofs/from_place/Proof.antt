@@ -2,9 +2,10 @@
 use mathlib.Core.Path.{sym, _∙_}
 use native.Mathlib.Omega.{arith}
 use Prim.Native.Nat.{_-_}
-use Rattle.board.specs.Record.{shown}
+use Rattle.board.specs.Record.{shown, laid}
 use Rattle.generate.specs.Found.{targetCount, foundBetween, foundFrom}
-use Rattle.generate.proofs.Writing.{Walked, walk-start, walk-room, walk-on, walk-long, walk-end, adds-none}
+use Rattle.moves.proofs.Writing.{adds-none}
+use Rattle.generate.proofs.Writing.{Walked, walk-start, walk-room, walk-on, walk-long, walk-end}
 use Rattle.generate.proofs.Offering.{none-from}
 use borrow.Author.Needs.{needs}
 use Rattle.generate.proofs.from_place.Statement.{statement}
@@ -12,7 +13,7 @@ use Rattle.generate.proofs.from_place.Tie as tie
 
 abbrev Inv-loop : tie.InvT-loop
 Inv-loop way cells foundation counts tableau i out₀ n card last made₀ j₀ out made j =
-    Walked (foundBetween (shown (record { cells = cells; foundation = foundation; counts = counts; tableau = tableau })) way i) (targetCount way) out₀ n out made j
+    Walked (foundBetween (shown (laid cells foundation counts tableau)) way i) (targetCount way) out₀ n out made j
 
 abbrev μ-loop : tie.MeasureT-loop
 μ-loop way cells foundation counts tableau i out₀ n card last made₀ j₀ out made j = last - j
@@ -27,8 +28,8 @@ enum-told : tie.Need-enum-told Inv-loop μ-loop
 enum-told c = search needs
 
 returns : tie.Need-returns Inv-loop μ-loop
-returns c =
-    adds-none _ _ (none-from _ _ _ (c .before .before .before .before .pre .1 .0) (c .before .before .before .before .pre .1 .1 .0) (sym (c .before .before .card-at .ensures) ∙ c .enum-told .given .1))
+returns c = let p2 = c .before .before in let p4 = p2 .before .before in
+    adds-none _ _ (none-from _ _ _ (p4 .pre .1 .0) (p4 .pre .1 .1 .0) (sym (p2 .card-at .ensures) ∙ c .enum-told .given .1))
 
 targets-requires : tie.Need-targets-requires Inv-loop μ-loop
 targets-requires c κs = search needs

@@ -29,8 +29,8 @@ enum-told-6 : tie.Need-enum-told-6
 enum-told-6 c = search needs
 
 cast-s : tie.Need-cast-s
-cast-s c =
-    omega (arith, from-below (c .before .before .args .i) (c .before .before .pre) (c .enum-told6 .given .1))
+cast-s c = let p2 = c .before .before in
+    omega (arith, from-below (p2 .args .i) (p2 .pre) (c .enum-told6 .given .1))
 
 suit-at-requires : tie.Need-suit-at-requires
 suit-at-requires c κs = search needs

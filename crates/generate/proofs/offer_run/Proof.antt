@@ -6,7 +6,7 @@ use native.Mathlib.Omega.{arith}
 use lib.ListN.{length}
 use Rattle.card.specs.declared.Card.{Card}
 use Rattle.moves.specs.declared.Move.the-variants.{TableauToTableau}
-use Rattle.generate.proofs.Writing.{adds-none, adds-same}
+use Rattle.moves.proofs.Writing.{adds-none, adds-same}
 use Rattle.generate.proofs.Columns.{run-short, run-there, code-there, run-said, run-found}
 use borrow.Author.Needs.{needs}
 use Rattle.generate.proofs.offer_run.Statement.{statement}
@@ -45,8 +45,8 @@ fit-at-requires c κs =
     (s .pre .0 .sound .inColumns, (s .pre .0 .goes, code-there (s .pre .0) (c .before .wide .ensures)))
 
 card-of-requires : tie.Need-card-of-requires
-card-of-requires c κs =
-    code-there (c .before .before .before .before .before .before .pre .0) (c .before .before .before .wide .ensures)
+card-of-requires c κs = let p3 = c .before .before .before in let p6 = p3 .before .before .before in
+    code-there (p6 .pre .0) (p3 .wide .ensures)
 
 write-requires : tie.Need-write-requires
 write-requires c κs =
@@ -62,8 +62,8 @@ returns c =
     adds-same (ap (λ (x : Card). TableauToTableau (s .args .i) (s .args .j) (s .args .k + 1) x ∷ []) (c .before .before .before .before .card-of .ensures) ∙ sym (run-found (s .pre .0) (c .before .before .before .before .before .before .before .before .wide .ensures) (c .before .before .before .before .before .before .fit-at .ensures) (c .before .before .before .before .before .if1 .taken))) (c .before .before .write .ensures)
 
 returns-2 : tie.Need-returns-2
-returns-2 c =
-    adds-none _ _ (run-found (c .before .before .before .before .before .before .pre .0) (c .before .before .before .wide .ensures) (c .before .fit-at .ensures) (c .if1 .left))
+returns-2 c = let p3 = c .before .before .before in let p6 = p3 .before .before .before in
+    adds-none _ _ (run-found (p6 .pre .0) (p3 .wide .ensures) (c .before .fit-at .ensures) (c .if1 .left))
 
 pub offer-run-spec : {M : Type 1} → statement M
 offer-run-spec =

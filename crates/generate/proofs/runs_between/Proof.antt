@@ -2,8 +2,9 @@
 use mathlib.Core.Path.{sym}
 use native.Mathlib.Omega.{arith}
 use Prim.Native.Nat.{_-_}
-use Rattle.board.specs.Record.{shown}
-use Rattle.generate.proofs.Writing.{Walked, walk-start, walk-room, walk-on, walk-long, walk-end, adds-none, adds-same}
+use Rattle.board.specs.Record.{shown, laid}
+use Rattle.moves.proofs.Writing.{adds-none, adds-same}
+use Rattle.generate.proofs.Writing.{Walked, walk-start, walk-room, walk-on, walk-long, walk-end}
 use Rattle.generate.proofs.Columns.{tried, own-column, runs-of, runs-room}
 use borrow.Author.Needs.{needs}
 use Rattle.generate.proofs.runs_between.Statement.{statement}
@@ -11,7 +12,7 @@ use Rattle.generate.proofs.runs_between.Tie as tie
 
 abbrev Inv-loop : tie.InvT-loop
 Inv-loop cells foundation counts tableau i run j out₀ n most last made₀ k₀ out made k =
-    Walked (tried (shown (record { cells = cells; foundation = foundation; counts = counts; tableau = tableau })) i j) last out₀ n out made k
+    Walked (tried (shown (laid cells foundation counts tableau)) i j) last out₀ n out made k
 
 abbrev μ-loop : tie.MeasureT-loop
 μ-loop cells foundation counts tableau i run j out₀ n most last made₀ k₀ out made k = last - k

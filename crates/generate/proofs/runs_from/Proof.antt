@@ -1,7 +1,7 @@
 -- What `runs_from` leaves to be shown: column after column.
 use native.Mathlib.Omega.{arith}
 use Prim.Native.Nat.{_-_}
-use Rattle.board.specs.Record.{shown}
+use Rattle.board.specs.Record.{shown, laid}
 use Rattle.generate.specs.Found.{foundBetween, foundFrom}
 use Rattle.generate.specs.declared.Way.the-variants.{ColumnToColumn}
 use Rattle.generate.proofs.Writing.{Walked, walk-start, walk-room, walk-on, walk-long, walk-end}
@@ -11,7 +11,7 @@ use Rattle.generate.proofs.runs_from.Tie as tie
 
 abbrev Inv-loop : tie.InvT-loop
 Inv-loop cells foundation counts tableau i out₀ n run made₀ j₀ out made j =
-    Walked (foundBetween (shown (record { cells = cells; foundation = foundation; counts = counts; tableau = tableau })) ColumnToColumn i) 8 out₀ n out made j
+    Walked (foundBetween (shown (laid cells foundation counts tableau)) ColumnToColumn i) 8 out₀ n out made j
 
 abbrev μ-loop : tie.MeasureT-loop
 μ-loop cells foundation counts tableau i out₀ n run made₀ j₀ out made j = 8 - j

@@ -18,7 +18,7 @@ loop-holds : tie.Need-loop-holds Inv-loop μ-loop
 loop-holds c = going-start _ _ (c .before .pre .0)
 
 first-safe-at-requires : tie.Need-first-safe-at-requires Inv-loop μ-loop
-first-safe-at-requires c κs = c .before .before .before .before .before .before .loop .inv .sound
+first-safe-at-requires c κs = let p6 = c .before .before .before .before .before .before in p6 .loop .inv .sound
 
 enum-known-m : tie.Need-enum-known-m Inv-loop μ-loop
 enum-known-m c = search needs
@@ -27,31 +27,31 @@ enum-told : tie.Need-enum-told Inv-loop μ-loop
 enum-told c = search needs
 
 write-requires : tie.Need-write-requires Inv-loop μ-loop
-write-requires c κs = (chain-ready (c .before .before .before .before .before .before .before .before .before .before .before .loop .inv .sound) (sym (c .before .before .before .before .first-safe-at .ensures) ∙ c .before .before .m .given .1) .said, going-room (c .before .before .before .before .before .before .before .before .before .before .before .before .before .pre .1) (c .before .before .before .before .before .before .before .before .before .before .before .loop .inv) (omega (arith, c .before .before .before .before .before .before .before .before .before .before .loop-test .taken)) (sym (c .before .before .before .before .first-safe-at .ensures) ∙ c .before .before .m .given .1))
+write-requires c κs = let p2 = c .before .before in let p4 = p2 .before .before in let p10 = p4 .before .before .before .before .before .before in let p11 = p10 .before in let p13 = p11 .before .before in (chain-ready (p11 .loop .inv .sound) (sym (p4 .first-safe-at .ensures) ∙ p2 .m .given .1) .said, going-room (p13 .pre .1) (p11 .loop .inv) (omega (arith, p10 .loop-test .taken)) (sym (p4 .first-safe-at .ensures) ∙ p2 .m .given .1))
 
 apply-at-requires : tie.Need-apply-at-requires Inv-loop μ-loop
-apply-at-requires c κs = chain-ready (c .before .before .before .before .before .before .before .before .before .before .before .before .before .before .loop .inv .sound) (sym (c .before .before .before .before .before .before .before .first-safe-at .ensures) ∙ c .before .before .before .before .before .m .given .1)
+apply-at-requires c κs = let p5 = c .before .before .before .before .before in let p7 = p5 .before .before in let p14 = p7 .before .before .before .before .before .before .before in chain-ready (p14 .loop .inv .sound) (sym (p7 .first-safe-at .ensures) ∙ p5 .m .given .1)
 
 add-moves : tie.Need-add-moves Inv-loop μ-loop
-add-moves c = omega (arith, c .before .before .before .before .before .before .before .before .before .before .before .before .before .before .loop-test .taken)
+add-moves c = let p14 = c .before .before .before .before .before .before .before .before .before .before .before .before .before .before in omega (arith, p14 .loop-test .taken)
 
 loop-less : tie.Need-loop-less Inv-loop μ-loop
-loop-less c = omega (arith, c .before .before .before .before .before .before .before .before .before .before .before .before .before .before .loop-test .taken)
+loop-less c = let p14 = c .before .before .before .before .before .before .before .before .before .before .before .before .before .before in omega (arith, p14 .loop-test .taken)
 
 loop-again : tie.Need-loop-again Inv-loop μ-loop
-loop-again c = going-turn (c .before .before .before .before .before .before .before .before .before .before .before .before .before .before .before .before .before .pre .1) (c .before .before .before .before .before .before .before .before .before .before .before .before .before .before .before .loop .inv) (omega (arith, c .before .before .before .before .before .before .before .before .before .before .before .before .before .before .loop-test .taken)) (sym (c .before .before .before .before .before .before .before .before .first-safe-at .ensures) ∙ c .before .before .before .before .before .before .m .given .1) (c .before .before .before .write .ensures) (c .apply-at .ensures)
+loop-again c = let p3 = c .before .before .before in let p6 = p3 .before .before .before in let p8 = p6 .before .before in let p14 = p8 .before .before .before .before .before .before in let p15 = p14 .before in let p17 = p15 .before .before in going-turn (p17 .pre .1) (p15 .loop .inv) (omega (arith, p14 .loop-test .taken)) (sym (p8 .first-safe-at .ensures) ∙ p6 .m .given .1) (p3 .write .ensures) (c .apply-at .ensures)
 
 same-length : tie.Need-same-length Inv-loop μ-loop
-same-length c = going-long (c .before .before .before .pre .1) (c .before .loop .inv)
+same-length c = let p3 = c .before .before .before in going-long (p3 .pre .1) (c .before .loop .inv)
 
 returns : tie.Need-returns Inv-loop μ-loop
-returns c = going-full (c .before .before .before .pre .1) (c .before .loop .inv) (omega (arith, c .loop-test .left))
+returns c = let p3 = c .before .before .before in going-full (p3 .pre .1) (c .before .loop .inv) (omega (arith, c .loop-test .left))
 
 same-length-2 : tie.Need-same-length-2 Inv-loop μ-loop
-same-length-2 c = going-long (c .before .before .before .before .before .before .before .before .before .before .before .pre .1) (c .before .before .before .before .before .before .before .before .before .loop .inv)
+same-length-2 c = let p9 = c .before .before .before .before .before .before .before .before .before in let p11 = p9 .before .before in going-long (p11 .pre .1) (p9 .loop .inv)
 
 returns-2 : tie.Need-returns-2 Inv-loop μ-loop
-returns-2 c = going-stop (c .before .before .before .before .before .before .before .before .before .before .before .pre .1) (c .before .before .before .before .before .before .before .before .before .loop .inv) (sym (c .before .before .first-safe-at .ensures) ∙ c .enum-told .given .1)
+returns-2 c = let p2 = c .before .before in let p9 = p2 .before .before .before .before .before .before .before in let p11 = p9 .before .before in going-stop (p11 .pre .1) (p9 .loop .inv) (sym (p2 .first-safe-at .ensures) ∙ c .enum-told .given .1)
 
 pub write-chain-spec : {M : Type 1} → statement M
 write-chain-spec =

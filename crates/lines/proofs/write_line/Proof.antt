@@ -10,19 +10,19 @@ slice-aggregate-climb : tie.Need-slice-aggregate-climb
 slice-aggregate-climb c = search needs
 
 climb-requires : tie.Need-climb-requires
-climb-requires c κs = (c .before .before .before .pre .1 .0 .linked, (c .before .before .before .pre .1 .1 .0, node-few (c .before .before .before .pre .1 .0) _ (c .before .before .before .pre .1 .1 .0)))
+climb-requires c κs = let p3 = c .before .before .before in (p3 .pre .1 .0 .linked, (p3 .pre .1 .1 .0, node-few (p3 .pre .1 .0) _ (p3 .pre .1 .1 .0)))
 
 slice-aggregate-write-down : tie.Need-slice-aggregate-write-down
 slice-aggregate-write-down c = search needs
 
 write-down-requires : tie.Need-write-down-requires
-write-down-requires c κs = (path-leads (c .before .before .before .climb .ensures) (c .before .before .before .before .before .before .before .pre .0) (node-steps (c .before .before .before .before .before .before .before .pre .1 .0) _ (c .before .before .before .before .before .before .before .pre .1 .1 .0)) (node-costs (c .before .before .before .before .before .before .before .pre .1 .0) _ (c .before .before .before .before .before .before .before .pre .1 .1 .0)), node-room (c .before .before .before .before .before .before .before .pre .1 .0) _ (c .before .before .before .before .before .before .before .pre .1 .1 .0) (c .before .before .before .climb .ensures) (c .before .before .before .before .before .before .before .pre .1 .1 .1))
+write-down-requires c κs = let p3 = c .before .before .before in let p7 = p3 .before .before .before .before in (path-leads (p3 .climb .ensures) (p7 .pre .0) (node-steps (p7 .pre .1 .0) _ (p7 .pre .1 .1 .0)) (node-costs (p7 .pre .1 .0) _ (p7 .pre .1 .1 .0)), node-room (p7 .pre .1 .0) _ (p7 .pre .1 .1 .0) (p3 .climb .ensures) (p7 .pre .1 .1 .1))
 
 same-length : tie.Need-same-length
 same-length c = search needs
 
 returns : tie.Need-returns
-returns c = node-line _ _ _ (c .before .before .before .before .before .before .climb .ensures) (c .before .before .write-down .ensures)
+returns c = let p2 = c .before .before in let p6 = p2 .before .before .before .before in node-line _ _ _ (p6 .climb .ensures) (p2 .write-down .ensures)
 
 pub write-line-spec : {M : Type 1} → statement M
 write-line-spec =

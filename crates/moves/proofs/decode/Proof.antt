@@ -33,33 +33,33 @@ is-card-requires : tie.Need-is-card-requires
 is-card-requires c κs = search needs
 
 returns-2 : tie.Need-returns-2
-returns-2 c =
-    (no-card (c .before .before .before .before .before .before .before .before .before .args .bytes .now) (sym (c .before .is-card .ensures) ∙ not-true _ (c .if2 .taken)), refl)
+returns-2 c = let p9 = c .before .before .before .before .before .before .before .before .before in
+    (no-card (p9 .args .bytes .now) (sym (c .before .is-card .ensures) ∙ not-true _ (c .if2 .taken)), refl)
 
 source-room-requires : tie.Need-source-room-requires
 source-room-requires c κs = search needs
 
 returns-3 : tie.Need-returns-3
-returns-3 c =
-    (no-source (c .before .before .before .before .before .before .before .before .before .before .before .args .bytes .now) (subst (λ (n : ℕ). n ≤ getD (c .before .before .before .before .before .before .before .before .before .before .before .args .bytes .now) 1 0) (c .before .source-room .ensures) (c .if3 .taken)), refl)
+returns-3 c = let p11 = c .before .before .before .before .before .before .before .before .before .before .before in
+    (no-source (p11 .args .bytes .now) (subst (λ (n : ℕ). n ≤ getD (p11 .args .bytes .now) 1 0) (c .before .source-room .ensures) (c .if3 .taken)), refl)
 
 target-allows-requires : tie.Need-target-allows-requires
 target-allows-requires c κs = search needs
 
 returns-4 : tie.Need-returns-4
-returns-4 c =
-    (no-target (c .before .before .before .before .before .before .before .before .before .before .before .before .before .args .bytes .now) (sym (c .before .target-allows .ensures) ∙ not-true _ (c .if4 .taken)), refl)
+returns-4 c = let p13 = c .before .before .before .before .before .before .before .before .before .before .before .before .before in
+    (no-target (p13 .args .bytes .now) (sym (c .before .target-allows .ensures) ∙ not-true _ (c .if4 .taken)), refl)
 
 count-allows-requires : tie.Need-count-allows-requires
 count-allows-requires c κs = search needs
 
 returns-5 : tie.Need-returns-5
-returns-5 c =
-    (no-count (c .before .before .before .before .before .before .before .before .before .before .before .before .before .before .before .args .bytes .now) (sym (c .before .count-allows .ensures) ∙ not-true _ (c .if5 .taken)), refl)
+returns-5 c = let p15 = c .before .before .before .before .before .before .before .before .before .before .before .before .before .before .before in
+    (no-count (p15 .args .bytes .now) (sym (c .before .count-allows .ensures) ∙ not-true _ (c .if5 .taken)), refl)
 
 move-said-requires : tie.Need-move-said-requires
-move-said-requires c κs =
-    (sym (c .before .before .before .before .before .before .before .is-card .ensures) ∙ not-false _ (c .before .before .before .before .before .before .if2 .left))
+move-said-requires c κs = let p6 = c .before .before .before .before .before .before in let p7 = p6 .before in
+    (sym (p7 .is-card .ensures) ∙ not-false _ (p6 .if2 .left))
 
 returns-6 : tie.Need-returns-6
 returns-6 c =

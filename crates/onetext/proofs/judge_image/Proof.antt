@@ -10,7 +10,7 @@ use Rattle.onetext.proofs.judge_image.Statement.{statement}
 use Rattle.onetext.proofs.judge_image.Tie as tie
 
 returns : tie.Need-returns
-returns c = tells-short (c .before .before .before .args .image .now) (c .before .before .before .args .out .now) (c .if1 .taken)
+returns c = let p3 = c .before .before .before in tells-short (p3 .args .image .now) (p3 .args .out .now) (c .if1 .taken)
 
 slice-aggregate-put-line : tie.Need-slice-aggregate-put-line
 slice-aggregate-put-line c = search needs
@@ -22,7 +22,7 @@ same-length : tie.Need-same-length
 same-length c = search needs
 
 returns-2 : tie.Need-returns-2
-returns-2 c = tells-put (c .before .before .before .before .before .before .before .before .before .args .image .now) (c .before .before .before .before .before .before .if1 .left) (text-long (c .before .before .before .before .before .before .before .before .before .args .image .now) (c .before .before .before .before .before .if2 .taken)) (c .before .before .put-line .ensures .puts)
+returns-2 c = let p2 = c .before .before in let p5 = p2 .before .before .before in let p6 = p5 .before in let p9 = p6 .before .before .before in tells-put (p9 .args .image .now) (p6 .if1 .left) (text-long (p9 .args .image .now) (p5 .if2 .taken)) (p2 .put-line .ensures .puts)
 
 read-requires : tie.Need-read-requires
 read-requires c κs = search needs
@@ -43,19 +43,19 @@ same-length-2 : tie.Need-same-length-2
 same-length-2 c = search needs
 
 returns-3 : tie.Need-returns-3
-returns-3 c = tells-put (c .before .before .before .before .before .before .before .before .before .before .before .before .before .before .args .image .now) (c .before .before .before .before .before .before .before .before .before .before .before .if1 .left) (ap (λ (n : ℕ). line (n ∷ [])) (c .before .before .before .before .before .number .ensures) ∙ text-refused (c .before .before .before .before .before .before .before .before .before .before .before .before .before .before .args .image .now) (c .before .before .before .before .before .before .before .before .before .before .if2 .left) (c .before .before .before .before .before .before .before .before .before .read .ensures) (c .before .before .before .before .before .before .before .said .given .1)) (c .before .before .put-line2 .ensures .puts)
+returns-3 c = let p2 = c .before .before in let p5 = p2 .before .before .before in let p7 = p5 .before .before in let p9 = p7 .before .before in let p10 = p9 .before in let p11 = p10 .before in let p14 = p11 .before .before .before in tells-put (p14 .args .image .now) (p11 .if1 .left) (ap (λ (n : ℕ). line (n ∷ [])) (p5 .number .ensures) ∙ text-refused (p14 .args .image .now) (p10 .if2 .left) (p9 .read .ensures) (p7 .said .given .1)) (p2 .put-line2 .ensures .puts)
 
 enum-told : tie.Need-enum-told
 enum-told c = search needs
 
 put-hand-requires : tie.Need-put-hand-requires
-put-hand-requires c κs = (read-board (c .before .before .before .before .before .before .before .before .args .image .now) (c .before .before .before .before .if2 .left) (c .before .before .before .read .ensures) (c .before .enum-told .given .1), omega (arith, c .before .before .before .before .before .if1 .left))
+put-hand-requires c κs = let p3 = c .before .before .before in let p4 = p3 .before in let p5 = p4 .before in let p8 = p5 .before .before .before in (read-board (p8 .args .image .now) (p4 .if2 .left) (p3 .read .ensures) (c .before .enum-told .given .1), omega (arith, p5 .if1 .left))
 
 same-length-3 : tie.Need-same-length-3
 same-length-3 c = search needs
 
 returns-4 : tie.Need-returns-4
-returns-4 c = tells-put (c .before .before .before .before .before .before .before .before .before .before .before .args .image .now) (c .before .before .before .before .before .before .before .before .if1 .left) (text-given (c .before .before .before .before .before .before .before .before .before .before .before .args .image .now) (c .before .before .before .before .before .before .before .if2 .left) (c .before .before .before .before .before .before .read .ensures) (c .before .before .before .before .enum-told .given .1)) (c .before .before .put-hand .ensures)
+returns-4 c = let p2 = c .before .before in let p4 = p2 .before .before in let p6 = p4 .before .before in let p7 = p6 .before in let p8 = p7 .before in let p11 = p8 .before .before .before in tells-put (p11 .args .image .now) (p8 .if1 .left) (text-given (p11 .args .image .now) (p7 .if2 .left) (p6 .read .ensures) (p4 .enum-told .given .1)) (p2 .put-hand .ensures)
 
 pub judge-image-spec : {M : Type 1} → statement M
 judge-image-spec =

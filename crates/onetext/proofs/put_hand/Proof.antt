@@ -8,16 +8,16 @@ use Rattle.onetext.proofs.put_hand.Statement.{statement}
 use Rattle.onetext.proofs.put_hand.Tie as tie
 
 compute-features-requires : tie.Need-compute-features-requires
-compute-features-requires c κs = fine-sound (c .before .before .before .before .before .before .pre .0)
+compute-features-requires c κs = let p6 = c .before .before .before .before .before .before in fine-sound (p6 .pre .0)
 
 token-at-requires : tie.Need-token-at-requires
-token-at-requires c κs = (small (c .before .before .before .before .before .before .before .before .pre .0) (c .before .compute-features .ensures), omega (arith, short (c .before .before .before .before .before .before .before .before .pre .0) (c .before .compute-features .ensures), c .before .before .before .before .before .before .before .before .pre .1))
+token-at-requires c κs = let p8 = c .before .before .before .before .before .before .before .before in (small (p8 .pre .0) (c .before .compute-features .ensures), omega (arith, short (p8 .pre .0) (c .before .compute-features .ensures), p8 .pre .1))
 
 slice-aggregate-put-bytes : tie.Need-slice-aggregate-put-bytes
 slice-aggregate-put-bytes c = search needs
 
 put-bytes-requires : tie.Need-put-bytes-requires
-put-bytes-requires c κs = first-room (c .before .before .before .before .before .before .before .before .before .before .before .before .before .pre .0) (c .before .before .before .before .before .before .compute-features .ensures) (c .before .before .before .before .before .before .before .before .before .before .before .before .before .pre .1) (c .before .before .before .before .token-at .ensures)
+put-bytes-requires c κs = let p4 = c .before .before .before .before in let p6 = p4 .before .before in let p13 = p6 .before .before .before .before .before .before .before in first-room (p13 .pre .0) (p6 .compute-features .ensures) (p13 .pre .1) (p4 .token-at .ensures)
 
 slice-aggregate-put-answer : tie.Need-slice-aggregate-put-answer
 slice-aggregate-put-answer c = search needs
@@ -35,13 +35,13 @@ slice-aggregate-put-answer-5 : tie.Need-slice-aggregate-put-answer-5
 slice-aggregate-put-answer-5 c = search needs
 
 put-answer-requires : tie.Need-put-answer-requires
-put-answer-requires c κs = (c .before .before .before .before .before .before .before .before .before .before .before .before .before .before .before .before .before .before .before .before .before .before .pre .0, (next-room (c .before .before .before .before .before .before .before .before .before .before .before .before .before .before .before .before .before .before .before .before .before .before .pre .0) (c .before .before .before .before .before .before .before .before .before .before .before .before .before .before .before .compute-features .ensures) (c .before .before .before .before .before .before .before .before .before .before .before .before .before .before .before .before .before .before .before .before .before .before .pre .1) (c .before .before .before .before .before .before .before .before .before .before .before .before .before .token-at .ensures) (c .before .before .before .before .before .before .before .before .put-bytes .ensures), record { nodes = refl; heap = refl; keys = refl; costs = refl; list = refl }))
+put-answer-requires c κs = let p8 = c .before .before .before .before .before .before .before .before in let p13 = p8 .before .before .before .before .before in let p15 = p13 .before .before in let p22 = p15 .before .before .before .before .before .before .before in (p22 .pre .0, (next-room (p22 .pre .0) (p15 .compute-features .ensures) (p22 .pre .1) (p13 .token-at .ensures) (p8 .put-bytes .ensures), record { nodes = refl; heap = refl; keys = refl; costs = refl; list = refl }))
 
 same-length : tie.Need-same-length
-same-length c = omega (arith, c .before .before .before .before .before .before .out3 .given, c .before .before .before .before .before .before .before .before .before .before .before .before .before .before .before .out2 .given, c .before .before .before .before .before .before .before .before .before .before .before .before .before .before .before .before .before .before .before .before .out .given)
+same-length c = let p6 = c .before .before .before .before .before .before in let p15 = p6 .before .before .before .before .before .before .before .before .before in let p20 = p15 .before .before .before .before .before in omega (arith, p6 .out3 .given, p15 .out2 .given, p20 .out .given)
 
 returns : tie.Need-returns
-returns c = hand-puts (c .before .before .before .before .before .before .before .before .before .before .before .before .before .before .before .before .before .before .before .before .before .before .before .before .before .before .before .before .before .before .pre .0) (c .before .before .before .before .before .before .before .before .before .before .before .before .before .before .before .before .before .before .before .before .before .before .before .compute-features .ensures) (c .before .before .before .before .before .before .before .before .before .before .before .before .before .before .before .before .before .before .before .before .before .before .before .before .before .before .before .before .before .before .pre .1) (c .before .before .before .before .before .before .before .before .before .before .before .before .before .before .before .before .before .before .before .before .before .token-at .ensures) (c .before .before .before .before .before .before .before .before .before .before .before .before .before .before .before .before .put-bytes .ensures) (c .before .before .before .before .before .before .before .put-answer .ensures)
+returns c = let p7 = c .before .before .before .before .before .before .before in let p16 = p7 .before .before .before .before .before .before .before .before .before in let p21 = p16 .before .before .before .before .before in let p23 = p21 .before .before in let p30 = p23 .before .before .before .before .before .before .before in hand-puts (p30 .pre .0) (p23 .compute-features .ensures) (p30 .pre .1) (p21 .token-at .ensures) (p16 .put-bytes .ensures) (p7 .put-answer .ensures)
 
 pub put-hand-spec : {M : Type 1} → statement M
 put-hand-spec =

@@ -8,9 +8,10 @@ use Rattle.play.proofs.Changing.{cleared-none, cleared-more}
 use borrow.Author.Needs.{needs}
 use Rattle.play.proofs.clear.Statement.{statement}
 use Rattle.play.proofs.clear.Tie as tie
+use Rattle.board.specs.Record.{tableauRoom}
 
 abbrev Inv-loop : tie.InvT-loop
-Inv-loop tableau₀ at n k₀ tableau k = (k ≤ n) × (length tableau₀ ≡ 416) × Cleared tableau₀ tableau at k
+Inv-loop tableau₀ at n k₀ tableau k = (k ≤ n) × (length tableau₀ ≡ tableauRoom) × Cleared tableau₀ tableau at k
 
 abbrev μ-loop : tie.MeasureT-loop
 μ-loop tableau₀ at n k₀ tableau k = n - k
@@ -22,7 +23,7 @@ add-tableau : tie.Need-add-tableau Inv-loop μ-loop
 add-tableau c = search needs
 
 element-write-tableau : tie.Need-element-write-tableau Inv-loop μ-loop
-element-write-tableau c = omega (arith, c .before .loop .inv .2 .long, c .before .loop .inv .1, c .before .before .pre .1)
+element-write-tableau c = let p2 = c .before .before in omega (arith, c .before .loop .inv .2 .long, c .before .loop .inv .1, p2 .pre .1)
 
 add-k : tie.Need-add-k Inv-loop μ-loop
 add-k c = search needs

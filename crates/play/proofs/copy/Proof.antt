@@ -8,9 +8,10 @@ use Rattle.play.proofs.Changing.{copied-none, copied-more}
 use borrow.Author.Needs.{needs}
 use Rattle.play.proofs.copy.Statement.{statement}
 use Rattle.play.proofs.copy.Tie as tie
+use Rattle.board.specs.Record.{tableauRoom}
 
 abbrev Inv-loop : tie.InvT-loop
-Inv-loop tableau₀ from to n k₀ tableau k = (k ≤ n) × (length tableau₀ ≡ 416) × Copied tableau₀ tableau from to k
+Inv-loop tableau₀ from to n k₀ tableau k = (k ≤ n) × (length tableau₀ ≡ tableauRoom) × Copied tableau₀ tableau from to k
 
 abbrev μ-loop : tie.MeasureT-loop
 μ-loop tableau₀ from to n k₀ tableau k = n - k

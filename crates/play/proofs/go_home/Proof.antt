@@ -15,16 +15,16 @@ wide-requires : tie.Need-wide-requires
 wide-requires c κs = search needs
 
 element-copy-out-n : tie.Need-element-copy-out-n
-element-copy-out-n c = omega (arith, c .wide .ensures, c .before .number .ensures, suit-below (c .before .before .args .card .suit), c .before .before .pre .four)
+element-copy-out-n c = let p2 = c .before .before in omega (arith, c .wide .ensures, c .before .number .ensures, suit-below (p2 .args .card .suit), p2 .pre .four)
 
 add-foundation : tie.Need-add-foundation
-add-foundation c = omega (arith, c .before .before .before .pre .within (c .before .wide .result) (omega (arith, c .before .wide .ensures, c .before .before .number .ensures, suit-below (c .before .before .before .args .card .suit))))
+add-foundation c = let p2 = c .before .before in let p3 = p2 .before in omega (arith, p3 .pre .within (c .before .wide .result) (omega (arith, c .before .wide .ensures, p2 .number .ensures, suit-below (p3 .args .card .suit))))
 
 element-write-foundation : tie.Need-element-write-foundation
-element-write-foundation c = omega (arith, c .before .wide .ensures, c .before .before .number .ensures, suit-below (c .before .before .before .args .card .suit))
+element-write-foundation c = let p2 = c .before .before in let p3 = p2 .before in omega (arith, c .before .wide .ensures, p2 .number .ensures, suit-below (p3 .args .card .suit))
 
 returns : tie.Need-returns
-returns c = ap (λ (k : ℕ). set (c .before .before .before .args .foundation .now) k (getD (c .before .before .before .args .foundation .now) k 0 + 1)) (c .before .wide .ensures ∙ c .before .before .number .ensures)
+returns c = let p2 = c .before .before in let p3 = p2 .before in ap (λ (k : ℕ). set (p3 .args .foundation .now) k (getD (p3 .args .foundation .now) k 0 + 1)) (c .before .wide .ensures ∙ p2 .number .ensures)
 
 pub go-home-spec : {M : Type 1} → statement M
 go-home-spec =

@@ -3,6 +3,7 @@ use Rattle.play.proofs.Changing.{becomes-laid}
 use borrow.Author.Needs.{needs}
 use Rattle.play.proofs.lay.Statement.{statement}
 use Rattle.play.proofs.lay.Tie as tie
+use Rattle.board.specs.Record.{laid}
 
 element-copy-out-count : tie.Need-element-copy-out-count
 element-copy-out-count c = search needs
@@ -26,7 +27,7 @@ element-write-counts : tie.Need-element-write-counts
 element-write-counts c = search needs
 
 returns : tie.Need-returns
-returns c = record { becomes = λ cells foundation. becomes-laid (record { cells = cells; foundation = foundation; counts = c .before .before .args .counts .now; tableau = c .before .before .args .tableau .now }) (c .before .before .pre .0) (c .before .before .args .i) (c .before .before .pre .1 .0) (c .before .before .pre .1 .1 .0) (c .before .before .args .code) (c .before .before .pre .1 .1 .1) (c .wide .result) (c .wide .ensures) }
+returns c = let p2 = c .before .before in record { becomes = λ cells foundation. becomes-laid (laid cells foundation (p2 .args .counts .now) (p2 .args .tableau .now)) (p2 .pre .0) (p2 .args .i) (p2 .pre .1 .0) (p2 .pre .1 .1 .0) (p2 .args .code) (p2 .pre .1 .1 .1) (c .wide .result) (c .wide .ensures) }
 
 pub lay-spec : {M : Type 1} → statement M
 lay-spec =

@@ -15,16 +15,16 @@ wide-requires : tie.Need-wide-requires
 wide-requires c κs = search needs
 
 element-copy-out-n : tie.Need-element-copy-out-n
-element-copy-out-n c = omega (arith, c .wide .ensures, c .before .number .ensures, suit-below (c .before .before .args .suit), c .before .before .pre .0 .four)
+element-copy-out-n c = let p2 = c .before .before in omega (arith, c .wide .ensures, c .before .number .ensures, suit-below (p2 .args .suit), p2 .pre .0 .four)
 
 sub-foundation : tie.Need-sub-foundation
-sub-foundation c = omega (arith, c .before .before .before .pre .1, ap (λ (k : ℕ). getD (c .before .before .before .args .foundation .now) k 0) (c .before .wide .ensures ∙ c .before .before .number .ensures))
+sub-foundation c = let p2 = c .before .before in let p3 = p2 .before in omega (arith, p3 .pre .1, ap (λ (k : ℕ). getD (p3 .args .foundation .now) k 0) (c .before .wide .ensures ∙ p2 .number .ensures))
 
 element-write-foundation : tie.Need-element-write-foundation
-element-write-foundation c = omega (arith, c .before .wide .ensures, c .before .before .number .ensures, suit-below (c .before .before .before .args .suit))
+element-write-foundation c = let p2 = c .before .before in let p3 = p2 .before in omega (arith, c .before .wide .ensures, p2 .number .ensures, suit-below (p3 .args .suit))
 
 returns : tie.Need-returns
-returns c = ap (λ (k : ℕ). set (c .before .before .before .args .foundation .now) k (getD (c .before .before .before .args .foundation .now) k 0 - 1)) (c .before .wide .ensures ∙ c .before .before .number .ensures)
+returns c = let p2 = c .before .before in let p3 = p2 .before in ap (λ (k : ℕ). set (p3 .args .foundation .now) k (getD (p3 .args .foundation .now) k 0 - 1)) (c .before .wide .ensures ∙ p2 .number .ensures)
 
 pub leave-home-spec : {M : Type 1} → statement M
 leave-home-spec =

@@ -8,10 +8,10 @@ apply-at-requires : tie.Need-apply-at-requires
 apply-at-requires c κs = search needs
 
 compute-features-requires : tie.Need-compute-features-requires
-compute-features-requires c κs = sound-then (c .before .before .before .before .before .before .pre) (c .before .before .before .before .before .apply-at .ensures)
+compute-features-requires c κs = let p5 = c .before .before .before .before .before in let p6 = p5 .before in sound-then (p6 .pre) (p5 .apply-at .ensures)
 
 returns : tie.Need-returns
-returns c = (features-then (c .before .before .before .before .before .before .before .pre) (c .before .before .before .before .before .before .apply-at .ensures) (c .compute-features .ensures), bounded-then (c .before .before .before .before .before .before .before .pre) (c .before .before .before .before .before .before .apply-at .ensures) (c .compute-features .ensures))
+returns c = let p6 = c .before .before .before .before .before .before in let p7 = p6 .before in (features-then (p7 .pre) (p6 .apply-at .ensures) (c .compute-features .ensures), bounded-then (p7 .pre) (p6 .apply-at .ensures) (c .compute-features .ensures))
 
 pub features-after-spec : {M : Type 1} → statement M
 features-after-spec = tie.close (tie.spec apply-at-requires compute-features-requires returns)

@@ -15,10 +15,10 @@ way-of-requires : tie.Need-way-of-requires
 way-of-requires c κs = search needs
 
 priority-key-requires : tie.Need-priority-key-requires
-priority-key-requires c κs = (subst Bounded (sym (c .before .before .pre .1)) (bounded (c .before .before .args .b) (c .before .before .pre .0 .sound)), c .before .features-after .ensures .1)
+priority-key-requires c κs = let p2 = c .before .before in (subst Bounded (sym (p2 .pre .1)) (bounded (p2 .args .b) (p2 .pre .0 .sound)), c .before .features-after .ensures .1)
 
 returns : tie.Need-returns
-returns c = key-is (shown (c .before .before .before .args .b)) (c .before .before .before .args .m) (c .before .way-of .ensures) (c .before .before .before .pre .1) (c .before .before .features-after .ensures .0) (c .priority-key .ensures)
+returns c = let p2 = c .before .before in let p3 = p2 .before in key-is (shown (p3 .args .b)) (p3 .args .m) (c .before .way-of .ensures) (p3 .pre .1) (p2 .features-after .ensures .0) (c .priority-key .ensures)
 
 pub key-at-spec : {M : Type 1} → statement M
 key-at-spec =

@@ -18,7 +18,7 @@ priority-takes-requires : tie.Need-priority-takes-requires
 priority-takes-requires c κs = search needs
 
 sub-result : tie.Need-sub-result
-sub-result c = omega (arith, c .priority-takes .ensures, priority-takes-most (c .before .before .args .way) (c .before .before .args .before) (c .before .before .args .after) (c .before .before .pre .0) (c .before .before .pre .1))
+sub-result c = let p2 = c .before .before in omega (arith, c .priority-takes .ensures, priority-takes-most (p2 .args .way) (p2 .args .before) (p2 .args .after) (p2 .pre .0) (p2 .pre .1))
 
 returns : tie.Need-returns
 unfolding priorityKey

@@ -2,7 +2,7 @@
 use mathlib.Core.Path.{sym, ap, _∙_}
 use mathlib.Core.Bool.{true, false}
 use lib.IntN.{ℤ}
-use Rattle.card.specs.Answer.{given}
+use Rattle.base.specs.Answer.{given}
 use Rattle.board.specs.Record.{shown}
 use Rattle.board.proofs.Soundness.{sound}
 use Rattle.questions.proofs.Asking.{after-no, after-yes, verdict-fine}

@@ -34,28 +34,28 @@ mul-blocked : tie.Need-mul-blocked
 mul-blocked c = search needs
 
 add-result : tie.Need-add-result
-add-result c = omega (arith, c .before .before .before .before .before .before .before .before .base-takes .ensures, base-takes-most (c .before .before .before .before .before .before .before .before .before .args .way))
+add-result c = let p8 = c .before .before .before .before .before .before .before .before in let p9 = p8 .before in omega (arith, p8 .base-takes .ensures, base-takes-most (p9 .args .way))
 
 add-result-2 : tie.Need-add-result-2
-add-result-2 c = omega (arith, c .before .before .before .before .before .before .before .before .base-takes .ensures, base-takes-most (c .before .before .before .before .before .before .before .before .before .args .way))
+add-result-2 c = let p8 = c .before .before .before .before .before .before .before .before in let p9 = p8 .before in omega (arith, p8 .base-takes .ensures, base-takes-most (p9 .args .way))
 
 add-result-3 : tie.Need-add-result-3
-add-result-3 c = omega (arith, c .before .before .before .before .before .before .before .before .base-takes .ensures, base-takes-most (c .before .before .before .before .before .before .before .before .before .args .way))
+add-result-3 c = let p8 = c .before .before .before .before .before .before .before .before in let p9 = p8 .before in omega (arith, p8 .base-takes .ensures, base-takes-most (p9 .args .way))
 
 add-result-4 : tie.Need-add-result-4
-add-result-4 c = omega (arith, c .before .before .before .before .before .before .before .before .base-takes .ensures, base-takes-most (c .before .before .before .before .before .before .before .before .before .args .way))
+add-result-4 c = let p8 = c .before .before .before .before .before .before .before .before in let p9 = p8 .before in omega (arith, p8 .base-takes .ensures, base-takes-most (p9 .args .way))
 
 add-result-5 : tie.Need-add-result-5
-add-result-5 c = omega (arith, c .before .before .before .before .before .before .before .before .base-takes .ensures, base-takes-most (c .before .before .before .before .before .before .before .before .before .args .way))
+add-result-5 c = let p8 = c .before .before .before .before .before .before .before .before in let p9 = p8 .before in omega (arith, p8 .base-takes .ensures, base-takes-most (p9 .args .way))
 
 add-result-6 : tie.Need-add-result-6
-add-result-6 c = omega (arith, c .before .before .before .before .before .before .before .before .base-takes .ensures, base-takes-most (c .before .before .before .before .before .before .before .before .before .args .way))
+add-result-6 c = let p8 = c .before .before .before .before .before .before .before .before in let p9 = p8 .before in omega (arith, p8 .base-takes .ensures, base-takes-most (p9 .args .way))
 
 add-result-7 : tie.Need-add-result-7
-add-result-7 c = omega (arith, c .before .before .before .before .before .before .before .before .base-takes .ensures, base-takes-most (c .before .before .before .before .before .before .before .before .before .args .way))
+add-result-7 c = let p8 = c .before .before .before .before .before .before .before .before in let p9 = p8 .before in omega (arith, p8 .base-takes .ensures, base-takes-most (p9 .args .way))
 
 add-result-8 : tie.Need-add-result-8
-add-result-8 c = omega (arith, c .before .before .before .before .before .before .before .before .base-takes .ensures, base-takes-most (c .before .before .before .before .before .before .before .before .before .args .way))
+add-result-8 c = let p8 = c .before .before .before .before .before .before .before .before in let p9 = p8 .before in omega (arith, p8 .base-takes .ensures, base-takes-most (p9 .args .way))
 
 returns : tie.Need-returns
 unfolding priorityTakes

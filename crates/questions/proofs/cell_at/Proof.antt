@@ -14,8 +14,8 @@ unfolding cellOf
 returns c = rw (eq-eqb _ 255 (c .if1 .taken))
 
 card-of-requires : tie.Need-card-of-requires
-card-of-requires c κs =
-    cell-is-card _ (c .before .before .pre .0 .codes (c .before .before .args .i) (c .before .before .pre .1)) (c .if1 .left)
+card-of-requires c κs = let p2 = c .before .before in
+    cell-is-card _ (p2 .pre .0 .codes (p2 .args .i) (p2 .pre .1)) (c .if1 .left)
 
 returns-2 : tie.Need-returns-2
 unfolding cellOf

@@ -8,8 +8,8 @@ use native.Mathlib.Omega.{arith}
 use lib.Dec.{eqb}
 use lib.ListN.{length, getD}
 use borrow.Author.Tests.{eq-eqb, ne-eqb}
-use Rattle.card.specs.Words.{sum}
-use Rattle.card.proofs.Sums.{sum-next}
+use Rattle.base.specs.Words.{sum}
+use Rattle.base.proofs.Sums.{sum-next}
 use borrow.Author.Needs.{needs}
 use Rattle.questions.proofs.count_of.Statement.{statement}
 use Rattle.questions.proofs.count_of.Tie as tie

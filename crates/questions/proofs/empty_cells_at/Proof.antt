@@ -9,7 +9,7 @@ count-of-requires : tie.Need-count-of-requires
 count-of-requires c κs = search needs
 
 returns : tie.Need-returns
-returns c = c .count-of .ensures ∙ empty-cells (c .before .before .args .cells .now) (c .before .before .pre .four)
+returns c = let p2 = c .before .before in c .count-of .ensures ∙ empty-cells (p2 .args .cells .now) (p2 .pre .four)
 
 pub empty-cells-at-spec : {M : Type 1} → statement M
 empty-cells-at-spec = tie.close (tie.spec count-of-requires returns)

@@ -4,7 +4,7 @@ use mathlib.Core.List.{List}
 use Prim.Native.Nat.{ℕ}
 use native.Mathlib.Omega.{arith}
 use lib.ListN.{getD}
-use Rattle.card.specs.Answer.{given}
+use Rattle.base.specs.Answer.{given}
 use Rattle.board.specs.Table.{piles}
 use Rattle.questions.specs.Questions.{foundationAsked}
 use Rattle.board.proofs.Soundness.{sound}

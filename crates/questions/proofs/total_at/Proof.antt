@@ -3,9 +3,9 @@ use mathlib.Core.Path.{_≡_, refl, ap, _∙_}
 use Prim.Native.Nat.{ℕ, _-_, _*_, _≤_}
 use native.Mathlib.Omega.{arith}
 use lib.ListN.{getD}
-use Rattle.card.specs.Words.{sum}
+use Rattle.base.specs.Words.{sum}
 use Rattle.questions.specs.Questions.{homeCount}
-use Rattle.card.proofs.Sums.{sum-next}
+use Rattle.base.proofs.Sums.{sum-next}
 use borrow.Author.Needs.{needs}
 use Rattle.questions.proofs.total_at.Statement.{statement}
 use Rattle.questions.proofs.total_at.Tie as tie
@@ -27,8 +27,8 @@ wide-requires : tie.Need-wide-requires Inv-loop μ-loop
 wide-requires c κs = search needs
 
 add-total : tie.Need-add-total Inv-loop μ-loop
-add-total c =
-    omega (arith, c .wide .ensures, c .before .before .before .before .pre .within (c .before .before .before .loop .s) (c .before .before .loop-test .taken))
+add-total c = let p2 = c .before .before in let p3 = p2 .before in let p4 = p3 .before in
+    omega (arith, c .wide .ensures, p4 .pre .within (p3 .loop .s) (p2 .loop-test .taken))
 
 add-s : tie.Need-add-s Inv-loop μ-loop
 add-s c = search needs

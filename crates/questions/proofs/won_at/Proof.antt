@@ -7,8 +7,8 @@ use native.Mathlib.Omega.{arith}
 use lib.Dec.{eqb}
 use lib.ListN.{getD}
 use borrow.Author.Tests.{eq-eqb, ne-eqb}
-use Rattle.card.specs.Words.{every}
-use Rattle.card.proofs.Words.{every-none, every-more, every-end, every-fails}
+use Rattle.base.specs.Words.{every}
+use Rattle.base.proofs.Words.{every-none, every-more, every-end, every-fails}
 use Rattle.questions.specs.Questions.{wonOn}
 use borrow.Author.Needs.{needs}
 use Rattle.questions.proofs.won_at.Statement.{statement}

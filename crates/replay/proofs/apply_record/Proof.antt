@@ -1,6 +1,6 @@
 -- What `apply_record` leaves to be shown: the board's refusals, then the move's.
 use mathlib.Core.Path.{sym, subst}
-use Rattle.card.specs.Answer.{Answer}
+use Rattle.base.specs.Answer.{Answer}
 use Rattle.board.specs.declared.Board.{Board}
 use Rattle.board.proofs.Soundness.{sound}
 use Rattle.questions.proofs.Asking.{after-no, after-yes, verdict-fine}

@@ -3,7 +3,7 @@ use mathlib.Core.Path.{sym, ap, _∙_}
 use Prim.Native.Nat.{_-_}
 use native.Mathlib.Omega.{arith}
 use lib.ListN.{length}
-use Rattle.card.specs.Answer.{refused}
+use Rattle.base.specs.Answer.{refused}
 use Rattle.board.specs.Refusal.{numberOf}
 use Rattle.board.specs.declared.Board.{Board}
 use Rattle.replay.proofs.Stepping.{said-yes, said-no}
@@ -51,14 +51,14 @@ add-moves : tie.Need-add-moves Inv-loop μ-loop
 add-moves c = let h = five-left (c .before .before .before .before .before .before .before .before .args .bytes .now) (c .before .before .before .before .before .before .before .before .pre .1) (c .before .before .before .before .before .before .before .before .args .b) (c .before .before .before .before .before .before .loop .inv) (c .before .before .before .before .before .loop-test .taken) in let p = (c .before .before .before .before .before .before .loop .inv) .place in search needs
 
 loop-less : tie.Need-loop-less Inv-loop μ-loop
-loop-less c = omega (arith, c .before .before .before .before .before .loop-test .taken)
+loop-less c = let p5 = c .before .before .before .before .before in omega (arith, p5 .loop-test .taken)
 
 loop-again : tie.Need-loop-again Inv-loop μ-loop
-loop-again c =
-    runs-turn (c .before .before .before .before .before .before .before .before .args .bytes .now) (c .before .before .before .before .before .before .before .before .pre .1) (c .before .before .before .before .before .before .before .before .args .b) (c .before .before .before .before .before .before .loop .inv) (c .before .before .before .before .before .loop-test .taken) (said-yes _ (c .before .before .before .apply-record-at .ensures .0) (c .enum-told .given .1)) (c .before .before .before .apply-record-at .ensures .1)
+loop-again c = let p3 = c .before .before .before in let p5 = p3 .before .before in let p6 = p5 .before in let p8 = p6 .before .before in
+    runs-turn (p8 .args .bytes .now) (p8 .pre .1) (p8 .args .b) (p6 .loop .inv) (p5 .loop-test .taken) (said-yes _ (p3 .apply-record-at .ensures .0) (c .enum-told .given .1)) (p3 .apply-record-at .ensures .1)
 
 returns-2 : tie.Need-returns-2 Inv-loop μ-loop
-returns-2 c = (ends-yes (runs-end (c .before .before .before .args .bytes .now) (c .before .before .before .pre .1) (c .before .before .before .args .b) (c .before .loop .inv) (omega (arith, c .loop-test .left))), (c .before .loop .inv) .sound)
+returns-2 c = let p3 = c .before .before .before in (ends-yes (runs-end (p3 .args .bytes .now) (p3 .pre .1) (p3 .args .b) (c .before .loop .inv) (omega (arith, c .loop-test .left))), (c .before .loop .inv) .sound)
 
 pub replay-at-spec : {M : Type 1} → statement M
 replay-at-spec =

@@ -4,7 +4,7 @@ use mathlib.Core.Bool.{Bool}
 use mathlib.Core.List.{List}
 use Prim.Native.Nat.{ℕ}
 use borrow.Author.Tests.{not-true, not-false}
-use Rattle.card.specs.Answer.{given}
+use Rattle.base.specs.Answer.{given}
 use Rattle.card.proofs.Codes.{is-card}
 use Rattle.board.specs.Table.{piles}
 use Rattle.questions.proofs.Asking.{after-no, after-yes, verdict-fine, shown-foundation}

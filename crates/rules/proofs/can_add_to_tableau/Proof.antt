@@ -5,9 +5,9 @@ use mathlib.Core.List.{List}
 use Prim.Native.Nat.{ℕ}
 use native.Mathlib.Omega.{arith}
 use borrow.Author.Tests.{lt-ltb, le-ltb, not-true, not-false}
-use Rattle.card.specs.Answer.{given}
+use Rattle.base.specs.Answer.{given}
 use Rattle.card.specs.Card.{isCard}
-use Rattle.card.proofs.Words.{both, first-fails, second-fails}
+use Rattle.base.proofs.Words.{both, first-fails, second-fails}
 use Rattle.card.proofs.Codes.{is-card}
 use Rattle.board.specs.Table.{piles}
 use Rattle.questions.proofs.Asking.{after-no, after-yes, verdict-fine, shown-column}

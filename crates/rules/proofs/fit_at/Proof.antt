@@ -4,7 +4,7 @@ use Prim.Native.Nat.{ℕ, _-_}
 use native.Mathlib.Omega.{arith}
 use Rattle.board.specs.Record.{columnAt}
 use Rattle.board.proofs.Soundness.{column-length, column-code}
-use Rattle.rules.specs.Fit.{follows}
+use Rattle.runs.specs.Follows.{follows}
 use Rattle.rules.proofs.Laying.{fits-none, fits-top}
 use borrow.Author.Needs.{needs}
 use Rattle.rules.proofs.fit_at.Statement.{statement}
@@ -17,8 +17,8 @@ wide-requires : tie.Need-wide-requires
 wide-requires c κs = search needs
 
 returns : tie.Need-returns
-returns c =
-    sym (fits-none (columnAt (c .before .before .before .args .counts .now) (c .before .before .before .args .tableau .now) (c .before .before .before .args .i)) (c .before .before .before .args .code) (column-length (c .before .before .before .pre .0) (c .before .before .before .args .i) (c .before .before .before .pre .1 .0) ∙ sym (c .before .wide .ensures) ∙ c .if1 .taken))
+returns c = let p3 = c .before .before .before in
+    sym (fits-none (columnAt (p3 .args .counts .now) (p3 .args .tableau .now) (p3 .args .i)) (p3 .args .code) (column-length (p3 .pre .0) (p3 .args .i) (p3 .pre .1 .0) ∙ sym (c .before .wide .ensures) ∙ c .if1 .taken))
 
 mul-first : tie.Need-mul-first
 mul-first c = search needs
@@ -27,16 +27,16 @@ sub-last : tie.Need-sub-last
 sub-last c = search needs
 
 add-last : tie.Need-add-last
-add-last c =
-    omega (arith, c .before .wide .ensures, c .before .before .before .pre .0 .within (c .before .before .before .args .i) (c .before .before .before .pre .1 .0))
+add-last c = let p3 = c .before .before .before in
+    omega (arith, c .before .wide .ensures, p3 .pre .0 .within (p3 .args .i) (p3 .pre .1 .0))
 
 element-copy-out-may-lie-on : tie.Need-element-copy-out-may-lie-on
-element-copy-out-may-lie-on c =
-    omega (arith, c .before .wide .ensures, c .before .before .before .pre .0 .within (c .before .before .before .args .i) (c .before .before .before .pre .1 .0), c .before .before .before .pre .0 .full, c .if1 .left)
+element-copy-out-may-lie-on c = let p3 = c .before .before .before in
+    omega (arith, c .before .wide .ensures, p3 .pre .0 .within (p3 .args .i) (p3 .pre .1 .0), p3 .pre .0 .full, c .if1 .left)
 
 may-lie-on-requires : tie.Need-may-lie-on-requires
-may-lie-on-requires c κs =
-    (c .before .before .before .before .pre .0 .codes (c .before .before .before .before .args .i) (c .before .before .wide .result - 1) (c .before .before .before .before .pre .1 .0) (omega (arith, c .before .before .wide .ensures, c .before .if1 .left)), c .before .before .before .before .pre .1 .1)
+may-lie-on-requires c κs = let p2 = c .before .before in let p4 = p2 .before .before in
+    (p4 .pre .0 .codes (p4 .args .i) (p2 .wide .result - 1) (p4 .pre .1 .0) (omega (arith, p2 .wide .ensures, c .before .if1 .left)), p4 .pre .1 .1)
 
 returns-2 : tie.Need-returns-2
 returns-2 c =

@@ -21,8 +21,8 @@ wide-requires-2 : tie.Need-wide-requires-2
 wide-requires-2 c κs = search needs
 
 add-next : tie.Need-add-next
-add-next c =
-    omega (arith, c .wide2 .ensures, c .before .before .before .pre .0 .within (c .before .before .wide .result) (omega (arith, c .before .before .wide .ensures, card-is (c .before .before .before .args .code) (c .before .before .before .pre .1) .suit)))
+add-next c = let p2 = c .before .before in let p3 = p2 .before in
+    omega (arith, c .wide2 .ensures, p3 .pre .0 .within (p2 .wide .result) (omega (arith, p2 .wide .ensures, card-is (p3 .args .code) (p3 .pre .1) .suit)))
 
 wide-requires-3 : tie.Need-wide-requires-3
 wide-requires-3 c κs = search needs

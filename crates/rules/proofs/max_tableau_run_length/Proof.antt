@@ -3,11 +3,11 @@ use mathlib.Core.Path.{sym, ap, _∙_}
 use mathlib.Core.List.{List}
 use Prim.Native.Nat.{ℕ}
 use native.Mathlib.Omega.{arith}
-use Rattle.card.specs.Answer.{given}
+use Rattle.base.specs.Answer.{given}
 use Rattle.board.specs.Table.{piles}
 use Rattle.questions.proofs.Asking.{after-no, after-yes, verdict-fine, place-no, place-yes, shown-column}
 use Rattle.board.proofs.Soundness.{sound}
-use Rattle.rules.specs.Run.{runLength}
+use Rattle.runs.specs.Run.{runLength}
 use Rattle.rules.specs.Asked.{runAsked}
 use borrow.Author.Needs.{needs}
 use Rattle.rules.proofs.max_tableau_run_length.Statement.{statement}

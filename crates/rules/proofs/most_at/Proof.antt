@@ -3,7 +3,7 @@ use mathlib.Core.Path.{sym, subst}
 use Prim.Native.Nat.{ℕ, _≤_}
 use native.Mathlib.Omega.{arith}
 use lib.Dec.{lit<}
-use Rattle.card.specs.Words.{listed}
+use Rattle.base.specs.Words.{listed}
 use Rattle.board.specs.Record.{columnAt}
 use Rattle.rules.proofs.Laying.{usable-at-most, most-at-most, cells-at-most, most-word}
 use native.Mathlib.Nat.{lt-of-le-of-lt}
@@ -21,16 +21,16 @@ usable-at-requires : tie.Need-usable-at-requires
 usable-at-requires c κs = (c .before .pre .1 .0, c .before .pre .1 .1)
 
 shl-times : tie.Need-shl-times
-shl-times c =
-    omega (arith, c .usable-at .ensures, usable-at-most (listed 8 (columnAt (c .before .before .args .counts .now) (c .before .before .args .tableau .now))) (c .before .before .args .to))
+shl-times c = let p2 = c .before .before in
+    omega (arith, c .usable-at .ensures, usable-at-most (listed 8 (columnAt (p2 .args .counts .now) (p2 .args .tableau .now))) (p2 .args .to))
 
 mul-result : tie.Need-mul-result
-mul-result c =
-    record { fits = lt-of-le-of-lt (subst (λ (n : ℕ). n ≤ 1280) (sym (most-word (c .before .before .args .cells .now) (listed 8 (columnAt (c .before .before .args .counts .now) (c .before .before .args .tableau .now))) (c .before .before .args .to) (c .before .empty-cells-at .ensures) (c .usable-at .ensures))) (most-at-most (c .before .before .args .cells .now) (listed 8 (columnAt (c .before .before .args .counts .now) (c .before .before .args .tableau .now))) (c .before .before .args .to))) (lit< tt) }
+mul-result c = let p2 = c .before .before in
+    record { fits = lt-of-le-of-lt (subst (λ (n : ℕ). n ≤ 1280) (sym (most-word (p2 .args .cells .now) (listed 8 (columnAt (p2 .args .counts .now) (p2 .args .tableau .now))) (p2 .args .to) (c .before .empty-cells-at .ensures) (c .usable-at .ensures))) (most-at-most (p2 .args .cells .now) (listed 8 (columnAt (p2 .args .counts .now) (p2 .args .tableau .now))) (p2 .args .to))) (lit< tt) }
 
 returns : tie.Need-returns
-returns c =
-    (most-word (c .before .before .args .cells .now) (listed 8 (columnAt (c .before .before .args .counts .now) (c .before .before .args .tableau .now))) (c .before .before .args .to) (c .before .empty-cells-at .ensures) (c .usable-at .ensures))
+returns c = let p2 = c .before .before in
+    (most-word (p2 .args .cells .now) (listed 8 (columnAt (p2 .args .counts .now) (p2 .args .tableau .now))) (p2 .args .to) (c .before .empty-cells-at .ensures) (c .usable-at .ensures))
 
 pub most-at-spec : {M : Type 1} → statement M
 most-at-spec =

@@ -5,10 +5,10 @@ use Prim.Native.Nat.{_-_, _≤_}
 use native.Mathlib.Omega.{arith}
 use lib.ListN.{drop}
 use borrow.Author.Tests.{not-true, not-false}
-use Rattle.card.proofs.Words.{first}
+use Rattle.base.proofs.Words.{first}
 use Rattle.board.specs.Record.{columnAt}
 use Rattle.board.proofs.Soundness.{column-length}
-use Rattle.rules.specs.Run.{isRun}
+use Rattle.runs.specs.Run.{isRun}
 use Rattle.rules.proofs.Laying.{run-one, run-none, card-in, run-grows, run-stops, run-all}
 use borrow.Author.Needs.{needs}
 use Rattle.rules.proofs.run_at.Statement.{statement}
@@ -27,8 +27,8 @@ wide-requires : tie.Need-wide-requires Inv-loop μ-loop
 wide-requires c κs = search needs
 
 returns : tie.Need-returns Inv-loop μ-loop
-returns c =
-    sym (run-none (columnAt (c .before .before .before .args .counts .now) (c .before .before .before .args .tableau .now) (c .before .before .before .args .i)) (column-length (c .before .before .before .pre .0) (c .before .before .before .args .i) (c .before .before .before .pre .1) ∙ sym (c .before .wide .ensures) ∙ c .if1 .taken))
+returns c = let p3 = c .before .before .before in
+    sym (run-none (columnAt (p3 .args .counts .now) (p3 .args .tableau .now) (p3 .args .i)) (column-length (p3 .pre .0) (p3 .args .i) (p3 .pre .1) ∙ sym (c .before .wide .ensures) ∙ c .if1 .taken))
 
 mul-first : tie.Need-mul-first Inv-loop μ-loop
 mul-first c = search needs
@@ -41,27 +41,27 @@ sub-lower : tie.Need-sub-lower Inv-loop μ-loop
 sub-lower c = search needs
 
 add-lower : tie.Need-add-lower Inv-loop μ-loop
-add-lower c =
-    omega (arith, c .before .before .before .wide .ensures, c .before .before .before .before .before .pre .0 .within (c .before .before .before .before .before .args .i) (c .before .before .before .before .before .pre .1))
+add-lower c = let p3 = c .before .before .before in let p5 = p3 .before .before in
+    omega (arith, p3 .wide .ensures, p5 .pre .0 .within (p5 .args .i) (p5 .pre .1))
 
 sub-upper : tie.Need-sub-upper Inv-loop μ-loop
 sub-upper c = search needs
 
 element-copy-out-may-lie-on : tie.Need-element-copy-out-may-lie-on Inv-loop μ-loop
-element-copy-out-may-lie-on c =
-    omega (arith, c .before .before .before .wide .ensures, c .before .before .before .before .before .pre .0 .within (c .before .before .before .before .before .args .i) (c .before .before .before .before .before .pre .1), c .before .before .before .before .before .pre .0 .full)
+element-copy-out-may-lie-on c = let p3 = c .before .before .before in let p5 = p3 .before .before in
+    omega (arith, p3 .wide .ensures, p5 .pre .0 .within (p5 .args .i) (p5 .pre .1), p5 .pre .0 .full)
 
 element-copy-out-may-lie-on-2 : tie.Need-element-copy-out-may-lie-on-2 Inv-loop μ-loop
-element-copy-out-may-lie-on-2 c =
-    omega (arith, c .before .before .before .before .wide .ensures, c .before .before .before .before .before .before .pre .0 .within (c .before .before .before .before .before .before .args .i) (c .before .before .before .before .before .before .pre .1), c .before .before .before .before .before .before .pre .0 .full, c .before .before .loop .inv .0)
+element-copy-out-may-lie-on-2 c = let p2 = c .before .before in let p4 = p2 .before .before in let p6 = p4 .before .before in
+    omega (arith, p4 .wide .ensures, p6 .pre .0 .within (p6 .args .i) (p6 .pre .1), p6 .pre .0 .full, p2 .loop .inv .0)
 
 may-lie-on-requires : tie.Need-may-lie-on-requires Inv-loop μ-loop
-may-lie-on-requires c κs =
-    (card-in (c .before .before .before .before .before .before .before .pre .0) (c .before .before .before .before .before .before .before .args .i) _ (c .before .before .before .before .before .before .before .pre .1) (omega (arith, c .before .before .before .before .before .wide .ensures, c .before .before .before .loop .inv .0, c .before .before .loop-test .taken)) (omega (arith, c .before .before .before .before .before .wide .ensures, c .before .before .before .loop .inv .0, c .before .before .loop-test .taken)), card-in (c .before .before .before .before .before .before .before .pre .0) (c .before .before .before .before .before .before .before .args .i) _ (c .before .before .before .before .before .before .before .pre .1) (omega (arith, c .before .before .before .before .before .wide .ensures, c .before .before .before .loop .inv .0, c .before .before .loop-test .taken)) (omega (arith, c .before .before .before .before .before .wide .ensures, c .before .before .before .loop .inv .0, c .before .before .loop-test .taken)))
+may-lie-on-requires c κs = let p2 = c .before .before in let p3 = p2 .before in let p5 = p3 .before .before in let p7 = p5 .before .before in
+    (card-in (p7 .pre .0) (p7 .args .i) _ (p7 .pre .1) (omega (arith, p5 .wide .ensures, p3 .loop .inv .0, p2 .loop-test .taken)) (omega (arith, p5 .wide .ensures, p3 .loop .inv .0, p2 .loop-test .taken)), card-in (p7 .pre .0) (p7 .args .i) _ (p7 .pre .1) (omega (arith, p5 .wide .ensures, p3 .loop .inv .0, p2 .loop-test .taken)) (omega (arith, p5 .wide .ensures, p3 .loop .inv .0, p2 .loop-test .taken)))
 
 returns-2 : tie.Need-returns-2 Inv-loop μ-loop
-returns-2 c =
-    run-stops (c .before .before .before .before .before .before .before .before .before .pre .0) (c .before .before .before .before .before .before .before .before .before .args .i) (c .before .before .before .before .before .before .before .wide .result) (c .before .before .before .before .before .loop .run) (c .before .before .before .before .before .before .before .before .before .pre .1) (c .before .before .before .before .before .before .before .wide .ensures) (c .before .before .before .before .before .loop .inv .0) (c .before .before .before .before .loop-test .taken) (c .before .before .before .before .before .loop .inv .2) (sym (c .before .may-lie-on .ensures) ∙ not-true _ (c .if2 .taken))
+returns-2 c = let p4 = c .before .before .before .before in let p5 = p4 .before in let p7 = p5 .before .before in let p9 = p7 .before .before in
+    run-stops (p9 .pre .0) (p9 .args .i) (p7 .wide .result) (p5 .loop .run) (p9 .pre .1) (p7 .wide .ensures) (p5 .loop .inv .0) (p4 .loop-test .taken) (p5 .loop .inv .2) (sym (c .before .may-lie-on .ensures) ∙ not-true _ (c .if2 .taken))
 
 add-run : tie.Need-add-run Inv-loop μ-loop
 add-run c = search needs
@@ -74,8 +74,8 @@ loop-again c =
     (search needs, omega arith, run-grows (c .before .before .before .before .before .before .before .before .before .pre .0) (c .before .before .before .before .before .before .before .before .before .args .i) (c .before .before .before .before .before .before .before .wide .result) (c .before .before .before .before .before .loop .run) (c .before .before .before .before .before .before .before .before .before .pre .1) (c .before .before .before .before .before .before .before .wide .ensures) (c .before .before .before .before .before .loop .inv .0) (c .before .before .before .before .loop-test .taken) (c .before .before .before .before .before .loop .inv .2) (sym (c .before .may-lie-on .ensures) ∙ not-false _ (c .if2 .left)))
 
 returns-3 : tie.Need-returns-3 Inv-loop μ-loop
-returns-3 c =
-    run-all (columnAt (c .before .before .before .before .before .args .counts .now) (c .before .before .before .before .before .args .tableau .now) (c .before .before .before .before .before .args .i)) (c .before .before .before .wide .result) (c .before .loop .run) (omega (arith, column-length (c .before .before .before .before .before .pre .0) (c .before .before .before .before .before .args .i) (c .before .before .before .before .before .pre .1), c .before .before .before .wide .ensures)) (c .before .loop .inv .1) (c .loop-test .left) (c .before .loop .inv .2)
+returns-3 c = let p3 = c .before .before .before in let p5 = p3 .before .before in
+    run-all (columnAt (p5 .args .counts .now) (p5 .args .tableau .now) (p5 .args .i)) (p3 .wide .result) (c .before .loop .run) (omega (arith, column-length (p5 .pre .0) (p5 .args .i) (p5 .pre .1), p3 .wide .ensures)) (c .before .loop .inv .1) (c .loop-test .left) (c .before .loop .inv .2)
 
 pub run-at-spec : {M : Type 1} → statement M
 run-at-spec =

@@ -14,16 +14,16 @@ element-copy-out-if1 : tie.Need-element-copy-out-if1
 element-copy-out-if1 c = omega (arith, c .before .pre .0 .eight)
 
 sub-result : tie.Need-sub-result
-sub-result c =
-    subst (λ (n : ℕ). 1 ≤ n) (sym (c .before .before .empty-columns-at .ensures)) (some-empty _ (c .before .before .before .args .to) (c .before .before .before .pre .1) (column-count (c .before .before .before .pre .0) (c .before .before .before .args .to) (c .before .before .before .pre .1) ∙ c .if1 .taken))
+sub-result c = let p2 = c .before .before in let p3 = p2 .before in
+    subst (λ (n : ℕ). 1 ≤ n) (sym (p2 .empty-columns-at .ensures)) (some-empty _ (p3 .args .to) (p3 .pre .1) (column-count (p3 .pre .0) (p3 .args .to) (p3 .pre .1) ∙ c .if1 .taken))
 
 returns : tie.Need-returns
-returns c =
-    ap (λ (n : ℕ). n - 1) (c .before .before .empty-columns-at .ensures) ∙ sym (usable-empty _ (c .before .before .before .args .to) (column-count (c .before .before .before .pre .0) (c .before .before .before .args .to) (c .before .before .before .pre .1) ∙ c .if1 .taken))
+returns c = let p2 = c .before .before in let p3 = p2 .before in
+    ap (λ (n : ℕ). n - 1) (p2 .empty-columns-at .ensures) ∙ sym (usable-empty _ (p3 .args .to) (column-count (p3 .pre .0) (p3 .args .to) (p3 .pre .1) ∙ c .if1 .taken))
 
 returns-2 : tie.Need-returns-2
-returns-2 c =
-    c .before .before .empty-columns-at .ensures ∙ sym (usable-other _ (c .before .before .before .args .to) (λ q. c .if1 .left (sym (column-count (c .before .before .before .pre .0) (c .before .before .before .args .to) (c .before .before .before .pre .1)) ∙ q)))
+returns-2 c = let p2 = c .before .before in let p3 = p2 .before in
+    p2 .empty-columns-at .ensures ∙ sym (usable-other _ (p3 .args .to) (λ q. c .if1 .left (sym (column-count (p3 .pre .0) (p3 .args .to) (p3 .pre .1)) ∙ q)))
 
 pub usable-at-spec : {M : Type 1} → statement M
 usable-at-spec =

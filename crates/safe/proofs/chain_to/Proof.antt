@@ -6,9 +6,10 @@ use Rattle.safe.proofs.Handing.{Chaining, chaining-start, chain-ready, 
 use borrow.Author.Needs.{needs}
 use Rattle.safe.proofs.chain_to.Statement.{statement}
 use Rattle.safe.proofs.chain_to.Tie as tie
+use Rattle.board.specs.Record.{laid}
 
 abbrev Inv-loop : tie.InvT-loop
-Inv-loop cells₀ foundation₀ counts₀ tableau₀ moves₀ cells foundation counts tableau moves = Chaining (record { cells = cells₀; foundation = foundation₀; counts = counts₀; tableau = tableau₀ }) (record { cells = cells; foundation = foundation; counts = counts; tableau = tableau }) moves
+Inv-loop cells₀ foundation₀ counts₀ tableau₀ moves₀ cells foundation counts tableau moves = Chaining (laid cells₀ foundation₀ counts₀ tableau₀) (laid cells foundation counts tableau) moves
 
 abbrev μ-loop : tie.MeasureT-loop
 μ-loop cells₀ foundation₀ counts₀ tableau₀ moves₀ cells foundation counts tableau moves = 52 - moves
@@ -17,7 +18,7 @@ loop-holds : tie.Need-loop-holds Inv-loop μ-loop
 loop-holds c = chaining-start (c .pre)
 
 first-safe-at-requires : tie.Need-first-safe-at-requires Inv-loop μ-loop
-first-safe-at-requires c κs = c .before .before .before .before .before .loop .inv .sound
+first-safe-at-requires c κs = let p5 = c .before .before .before .before .before in p5 .loop .inv .sound
 
 enum-known-m : tie.Need-enum-known-m Inv-loop μ-loop
 enum-known-m c = search needs
@@ -26,22 +27,22 @@ enum-told : tie.Need-enum-told Inv-loop μ-loop
 enum-told c = search needs
 
 apply-to-requires : tie.Need-apply-to-requires Inv-loop μ-loop
-apply-to-requires c κs = chain-ready (c .before .before .before .before .before .before .before .before .before .before .before .before .before .loop .inv .sound) (sym (c .before .before .before .before .before .before .before .first-safe-at .ensures) ∙ c .before .before .before .before .before .m .given .1)
+apply-to-requires c κs = let p5 = c .before .before .before .before .before in let p7 = p5 .before .before in let p13 = p7 .before .before .before .before .before .before in chain-ready (p13 .loop .inv .sound) (sym (p7 .first-safe-at .ensures) ∙ p5 .m .given .1)
 
 add-moves : tie.Need-add-moves Inv-loop μ-loop
-add-moves c = omega (arith, c .before .before .before .before .before .before .before .before .before .before .before .before .before .loop-test .taken)
+add-moves c = let p13 = c .before .before .before .before .before .before .before .before .before .before .before .before .before in omega (arith, p13 .loop-test .taken)
 
 loop-less : tie.Need-loop-less Inv-loop μ-loop
-loop-less c = omega (arith, c .before .before .before .before .before .before .before .before .before .before .before .before .before .loop-test .taken)
+loop-less c = let p13 = c .before .before .before .before .before .before .before .before .before .before .before .before .before in omega (arith, p13 .loop-test .taken)
 
 loop-again : tie.Need-loop-again Inv-loop μ-loop
-loop-again c = chaining-turn (c .before .before .before .before .before .before .before .before .before .before .before .before .before .before .loop .inv) (omega (arith, c .before .before .before .before .before .before .before .before .before .before .before .before .before .loop-test .taken)) (sym (c .before .before .before .before .before .before .before .before .first-safe-at .ensures) ∙ c .before .before .before .before .before .before .m .given .1) (c .apply-to .ensures)
+loop-again c = let p6 = c .before .before .before .before .before .before in let p8 = p6 .before .before in let p13 = p8 .before .before .before .before .before in let p14 = p13 .before in chaining-turn (p14 .loop .inv) (omega (arith, p13 .loop-test .taken)) (sym (p8 .first-safe-at .ensures) ∙ p6 .m .given .1) (c .apply-to .ensures)
 
 returns : tie.Need-returns Inv-loop μ-loop
 returns c = chaining-full (c .before .loop .inv) (omega (arith, c .loop-test .left))
 
 returns-2 : tie.Need-returns-2 Inv-loop μ-loop
-returns-2 c = chaining-stop (c .before .before .before .before .before .before .before .before .loop .inv) (sym (c .before .before .first-safe-at .ensures) ∙ c .enum-told .given .1)
+returns-2 c = let p2 = c .before .before in let p8 = p2 .before .before .before .before .before .before in chaining-stop (p8 .loop .inv) (sym (p2 .first-safe-at .ensures) ∙ c .enum-told .given .1)
 
 pub chain-to-spec : {M : Type 1} → statement M
 chain-to-spec =

@@ -1,6 +1,6 @@
 -- What `first_safe_move` leaves to be shown: the board's refusals, then the move.
 use mathlib.Core.Path.{sym, ap, _∙_}
-use Rattle.card.specs.Answer.{given}
+use Rattle.base.specs.Answer.{given}
 use Rattle.board.proofs.Soundness.{sound}
 use Rattle.questions.proofs.Asking.{after-no, after-yes, verdict-fine}
 use Rattle.safe.specs.Asked.{firstAsked}

@@ -3,8 +3,8 @@ use mathlib.Core.Path.{_≡_}
 use mathlib.Core.Bool.{true}
 use Prim.Native.Nat.{_-_, _≤_}
 use native.Mathlib.Omega.{arith}
-use Rattle.card.specs.Words.{every}
-use Rattle.card.proofs.Words.{every-none, every-more}
+use Rattle.base.specs.Words.{every}
+use Rattle.base.proofs.Words.{every-none, every-more}
 use Rattle.safe.proofs.Judging.{enough, low-safe, one-enough, too-few, all-enough}
 use borrow.Author.Needs.{needs}
 use Rattle.safe.proofs.is_safe_at.Statement.{statement}
@@ -32,8 +32,8 @@ needed-of-requires : tie.Need-needed-of-requires Inv-loop μ-loop
 needed-of-requires c κs = search needs
 
 returns-2 : tie.Need-returns-2 Inv-loop μ-loop
-returns-2 c =
-    too-few (c .before .before .before .before .before .before .before .args .foundation .now) (c .before .before .before .before .before .before .before .args .code) (omega (arith, c .before .before .before .before .before .before .if1 .left)) (c .before .before .before .before .before .loop .s) (c .before .before .before .wide .ensures) (c .before .needed-of .ensures) (omega (arith, c .before .before .before .before .loop-test .taken)) (c .if2 .taken)
+returns-2 c = let p3 = c .before .before .before in let p4 = p3 .before in let p5 = p4 .before in let p6 = p5 .before in let p7 = p6 .before in
+    too-few (p7 .args .foundation .now) (p7 .args .code) (omega (arith, p6 .if1 .left)) (p5 .loop .s) (p3 .wide .ensures) (c .before .needed-of .ensures) (omega (arith, p4 .loop-test .taken)) (c .if2 .taken)
 
 add-s : tie.Need-add-s Inv-loop μ-loop
 add-s c = search needs
@@ -49,8 +49,8 @@ loop-again c = (
 )
 
 returns-3 : tie.Need-returns-3 Inv-loop μ-loop
-returns-3 c =
-    all-enough (c .before .before .before .args .foundation .now) (c .before .before .before .args .code) (omega (arith, c .before .before .if1 .left)) (c .before .loop .s) (c .before .loop .inv .1) (omega (arith, c .loop-test .left))
+returns-3 c = let p2 = c .before .before in let p3 = p2 .before in
+    all-enough (p3 .args .foundation .now) (p3 .args .code) (omega (arith, p2 .if1 .left)) (c .before .loop .s) (c .before .loop .inv .1) (omega (arith, c .loop-test .left))
 
 pub is-safe-at-spec : {M : Type 1} → statement M
 is-safe-at-spec =

@@ -13,7 +13,7 @@ enum-known-why : tie.Need-enum-known-why
 enum-known-why c = search needs
 
 returns : tie.Need-returns
-returns c = chains-no (c .before .before .before .inspect .ensures) (c .before .why .given .1)
+returns c = let p3 = c .before .before .before in chains-no (p3 .inspect .ensures) (c .before .why .given .1)
 
 enum-told : tie.Need-enum-told
 enum-told c = search needs
@@ -23,7 +23,7 @@ chain-at-requires c κs =
     sound (c .before .before .before .before .before .before .before .before .args .t1) (record { four = search needs; piles = search needs; eight = search needs; full = search needs }) (verdict-fine (c .before .before .inspect .ensures) (c .enum-told .given .1))
 
 returns-2 : tie.Need-returns-2
-returns-2 c = chains-yes (c .before .before .before .inspect .ensures) (c .before .enum-told .given .1) (c .chain-at .ensures .0)
+returns-2 c = let p3 = c .before .before .before in chains-yes (p3 .inspect .ensures) (c .before .enum-told .given .1) (c .chain-at .ensures .0)
 
 pub safe-chain-spec : {M : Type 1} → statement M
 safe-chain-spec =

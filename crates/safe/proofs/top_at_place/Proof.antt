@@ -9,15 +9,15 @@ top-at-requires : tie.Need-top-at-requires
 top-at-requires c κs = search needs
 
 returns : tie.Need-returns
-returns c =
-    column-place (c .before .before .args .cells .now) (columnAt (c .before .before .args .counts .now) (c .before .before .args .tableau .now)) (c .before .before .args .place) (c .before .if1 .taken) (c .top-at .ensures)
+returns c = let p2 = c .before .before in
+    column-place (p2 .args .cells .now) (columnAt (p2 .args .counts .now) (p2 .args .tableau .now)) (p2 .args .place) (c .before .if1 .taken) (c .top-at .ensures)
 
 cell-at-requires : tie.Need-cell-at-requires
 cell-at-requires c κs = search needs
 
 returns-2 : tie.Need-returns-2
-returns-2 c =
-    cell-place (c .before .before .args .cells .now) (columnAt (c .before .before .args .counts .now) (c .before .before .args .tableau .now)) (c .before .before .args .place) (c .before .if1 .left) (c .cell-at .ensures)
+returns-2 c = let p2 = c .before .before in
+    cell-place (p2 .args .cells .now) (columnAt (p2 .args .counts .now) (p2 .args .tableau .now)) (p2 .args .place) (c .before .if1 .left) (c .cell-at .ensures)
 
 pub top-at-place-spec : {M : Type 1} → statement M
 top-at-place-spec = tie.close (tie.spec top-at-requires returns cell-at-requires returns-2)

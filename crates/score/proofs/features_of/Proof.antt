@@ -1,6 +1,6 @@
 -- What `features_of` leaves to be shown: the record's refusals, then its features.
 use mathlib.Core.Path.{sym, ap, _∙_}
-use Rattle.card.specs.Answer.{given}
+use Rattle.base.specs.Answer.{given}
 use Rattle.board.proofs.Soundness.{sound}
 use Rattle.questions.proofs.Asking.{after-no, after-yes, verdict-fine}
 use Rattle.score.specs.Asked.{featuresAsked}

@@ -1,7 +1,7 @@
 -- What `progress_of` leaves to be shown: the features told decide.
 use mathlib.Core.Path.{ap, _∙_}
 use lib.IntN.{ℤ}
-use Rattle.card.specs.Answer.{given}
+use Rattle.base.specs.Answer.{given}
 use Rattle.score.specs.Scores.{progress}
 use Rattle.score.specs.Asked.{progressAsked}
 use Rattle.score.proofs.Answering.{told-no, told-given, told-small}

@@ -2,7 +2,7 @@
 use mathlib.Core.Path.{_≡_}
 use Prim.Native.Nat.{_-_, _≤_}
 use lib.ListN.{length, getD}
-use Rattle.card.specs.Words.{listed}
+use Rattle.base.specs.Words.{listed}
 use Rattle.signature.specs.Fnv.{offset, fnvFrom, fnv}
 use Rattle.signature.proofs.Hashing.{hash-none, hash-more, hash-all}
 use borrow.Author.Needs.{needs}

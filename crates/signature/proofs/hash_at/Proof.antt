@@ -17,7 +17,7 @@ wide-requires : tie.Need-wide-requires
 wide-requires c κs = search needs
 
 add-end : tie.Need-add-end
-add-end c = omega (arith, c .wide .ensures, c .before .before .before .pre .0 .within (c .before .before .before .args .i) (c .before .before .before .pre .1))
+add-end c = let p3 = c .before .before .before in omega (arith, c .wide .ensures, p3 .pre .0 .within (p3 .args .i) (p3 .pre .1))
 
 sub-fnv1a : tie.Need-sub-fnv1a
 sub-fnv1a c = search needs
@@ -26,8 +26,8 @@ part-fnv1a-start : tie.Need-part-fnv1a-start
 part-fnv1a-start c = search needs
 
 part-fnv1a-end : tie.Need-part-fnv1a-end
-part-fnv1a-end c =
-    omega (arith, c .wide .ensures, c .before .before .before .pre .0 .full, c .before .before .before .pre .0 .within (c .before .before .before .args .i) (c .before .before .before .pre .1))
+part-fnv1a-end c = let p3 = c .before .before .before in
+    omega (arith, c .wide .ensures, p3 .pre .0 .full, p3 .pre .0 .within (p3 .args .i) (p3 .pre .1))
 
 fnv1a-requires : tie.Need-fnv1a-requires
 fnv1a-requires c κs = search needs

@@ -1,7 +1,7 @@
 -- What `hashes_at` leaves to be shown: the array is filled hash by hash.
 use mathlib.Core.Path.{refl, _∙_}
 use Prim.Native.Nat.{_-_}
-use Rattle.card.proofs.Filling.{Filled, filled-none, filled-more, filled-end}
+use Rattle.base.proofs.Filling.{Filled, filled-none, filled-more, filled-end}
 use Rattle.board.specs.Record.{columnAt}
 use Rattle.signature.specs.Fnv.{fnv}
 use Rattle.signature.proofs.Columns.{hashes-are}
@@ -34,8 +34,8 @@ loop-less : tie.Need-loop-less Inv-loop μ-loop
 loop-less c = search needs
 
 loop-again : tie.Need-loop-again Inv-loop μ-loop
-loop-again c =
-    filled-more (λ k. fnv (columnAt (c .before .before .before .before .args .counts .now) (c .before .before .before .before .args .tableau .now) k)) (c .before .before .loop .inv) (c .before .loop-test .taken) (c .hash-at .ensures)
+loop-again c = let p2 = c .before .before in let p4 = p2 .before .before in
+    filled-more (λ k. fnv (columnAt (p4 .args .counts .now) (p4 .args .tableau .now) k)) (p2 .loop .inv) (c .before .loop-test .taken) (c .hash-at .ensures)
 
 returns : tie.Need-returns Inv-loop μ-loop
 returns c =

@@ -1,6 +1,6 @@
 -- What `sign` leaves to be shown: part after part.
 use mathlib.Core.Path.{ap, _∙_}
-use Rattle.order.specs.Rising.{rising}
+use Rattle.base.specs.Rising.{rising}
 use Rattle.signature.proofs.Joined.{signed-by}
 use borrow.Author.Needs.{needs}
 use Rattle.signature.proofs.sign.Statement.{statement}

@@ -1,7 +1,7 @@
 -- What `signature_of` leaves to be shown: the record's refusals first.
 use mathlib.Core.Path.{sym, ap, _∙_}
 use Prim.Native.Nat.{ℕ}
-use Rattle.card.specs.Answer.{given}
+use Rattle.base.specs.Answer.{given}
 use Rattle.board.proofs.Soundness.{sound}
 use Rattle.questions.proofs.Asking.{after-no, after-yes, verdict-fine}
 use Rattle.signature.specs.Signed.{signatureAsked}

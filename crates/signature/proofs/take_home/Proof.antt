@@ -19,8 +19,8 @@ word-requires : tie.Need-word-requires
 word-requires c κs = search needs
 
 take-pile-requires : tie.Need-take-pile-requires
-take-pile-requires c κs =
-    (c .before .before .before .pre .1, omega (arith, c .word .ensures, c .before .before .before .pre .0 .within (c .before .before .before .args .i) (c .before .before .before .pre .1)))
+take-pile-requires c κs = let p3 = c .before .before .before in
+    (p3 .pre .1, omega (arith, c .word .ensures, p3 .pre .0 .within (p3 .args .i) (p3 .pre .1)))
 
 returns : tie.Need-returns
 unfolding homeWords

@@ -2,7 +2,7 @@
 use mathlib.Core.Path.{_≡_, ap, _∙_}
 use Prim.Native.Nat.{ℕ, _-_, _≤_}
 use native.Mathlib.Omega.{arith}
-use Rattle.card.specs.Words.{listed, concat}
+use Rattle.base.specs.Words.{listed, concat}
 use Rattle.signature.specs.Fnv.{offset, fnvFrom, fnv}
 use Rattle.signature.specs.Signed.{homeWords}
 use Rattle.signature.proofs.Hashing.{lists-none, lists-more}

@@ -2,7 +2,7 @@
 use mathlib.Core.Path.{_≡_, refl, ap, _∙_}
 use Prim.Native.Nat.{ℕ, _+_, _-_, _*_, _≤_}
 use native.Mathlib.Omega.{arith}
-use Rattle.card.specs.Words.{listed}
+use Rattle.base.specs.Words.{listed}
 use Rattle.board.specs.Table.{pile}
 use Rattle.signature.specs.Fnv.{fnvFrom}
 use Rattle.signature.proofs.Hashing.{hash-none, hash-more}

@@ -2,7 +2,7 @@
 use mathlib.Core.Path.{_≡_, refl}
 use Prim.Native.Nat.{_-_, _≤_}
 use lib.ListN.{length, getD}
-use Rattle.card.specs.Words.{listed}
+use Rattle.base.specs.Words.{listed}
 use Rattle.signature.specs.Fnv.{fnvFrom}
 use Rattle.signature.proofs.Hashing.{hash-none, hash-more, hash-all}
 use borrow.Author.Needs.{needs}
@@ -41,7 +41,7 @@ loop-again c = (
 )
 
 returns : tie.Need-returns Inv-loop μ-loop
-returns c = hash-all (c .before .before .before .args .h) (c .before .before .before .args .s .now) (c .before .loop .inv .0) (c .loop-test .left) (c .before .loop .inv .1)
+returns c = let p3 = c .before .before .before in hash-all (p3 .args .h) (p3 .args .s .now) (c .before .loop .inv .0) (c .loop-test .left) (c .before .loop .inv .1)
 
 pub take-words-spec : {M : Type 1} → statement M
 take-words-spec =

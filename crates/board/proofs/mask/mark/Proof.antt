@@ -46,10 +46,10 @@ shr-above : tie.Need-shr-above
 shr-above c = omega (arith, c .place-of .ensures, place-below (c .before .args .code) (c .before .pre .1))
 
 returns : tie.Need-returns
-returns c = again (c .before .before .args .seen) (c .before .before .args .code) (c .before .place-of .result) (c .before .before .pre .1) (c .before .place-of .ensures) (c .if1 .taken)
+returns c = let p2 = c .before .before in again (p2 .args .seen) (p2 .args .code) (c .before .place-of .result) (p2 .pre .1) (c .before .place-of .ensures) (c .if1 .taken)
 
 shl-bit : tie.Need-shl-bit
-shl-bit c = omega (arith, c .before .place-of .ensures, place-below (c .before .before .args .code) (c .before .before .pre .1))
+shl-bit c = let p2 = c .before .before in omega (arith, c .before .place-of .ensures, place-below (p2 .args .code) (p2 .pre .1))
 
 add-t7 : tie.Need-add-t7
 add-t7 c =

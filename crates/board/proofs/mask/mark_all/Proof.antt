@@ -4,9 +4,9 @@ use mathlib.Core.List.{List, _∷_, []}
 use Prim.Native.Nat.{ℕ, _-_}
 use lib.ListN.{length, getD}
 use borrow.Author.Needs.{needs}
-use Rattle.card.specs.Words.{listed, concat}
+use Rattle.base.specs.Words.{listed, concat}
 use Rattle.card.specs.Card.{isCard}
-use Rattle.card.proofs.Words.{all-at, singles}
+use Rattle.base.proofs.Words.{all-at, singles}
 use Rattle.board.specs.Inner.{Marks}
 use Rattle.board.specs.declared.Seen.{Seen}
 use Rattle.board.proofs.Marks.{Passed, pass-none, pass-more, pass-stop, pass-end}
@@ -44,8 +44,8 @@ enum-told : tie.Need-enum-told Inv-loop μ-loop
 enum-told c = search needs
 
 returns : tie.Need-returns Inv-loop μ-loop
-returns c =
-    whole _ (pass-stop _ _ (c .before .before .before .before .before .loop .inv) (c .before .before .before .before .loop-test .taken) (c .before .before .mark .ensures) (c .enum-told .given .1))
+returns c = let p2 = c .before .before in let p4 = p2 .before .before in let p5 = p4 .before in
+    whole _ (pass-stop _ _ (p5 .loop .inv) (p4 .loop-test .taken) (p2 .mark .ensures) (c .enum-told .given .1))
 
 add-i : tie.Need-add-i Inv-loop μ-loop
 add-i c = search needs
@@ -54,8 +54,8 @@ loop-less : tie.Need-loop-less Inv-loop μ-loop
 loop-less c = search needs
 
 loop-again : tie.Need-loop-again Inv-loop μ-loop
-loop-again c =
-    pass-more _ _ (c .before .before .before .before .before .before .loop .inv) (c .before .before .before .before .before .loop-test .taken) (c .before .before .before .mark .ensures) (c .before .more .given .1)
+loop-again c = let p3 = c .before .before .before in let p5 = p3 .before .before in let p6 = p5 .before in
+    pass-more _ _ (p6 .loop .inv) (p5 .loop-test .taken) (p3 .mark .ensures) (c .before .more .given .1)
 
 returns-2 : tie.Need-returns-2 Inv-loop μ-loop
 returns-2 c = whole _ (pass-end _ _ (c .before .loop .inv) (c .loop-test .left))

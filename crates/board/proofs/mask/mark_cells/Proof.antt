@@ -4,7 +4,7 @@ use mathlib.Core.List.{List, _∷_, []}
 use Prim.Native.Nat.{ℕ, _-_}
 use native.Mathlib.Omega.{arith}
 use lib.ListN.{length, getD}
-use Rattle.card.specs.Words.{listed, concat}
+use Rattle.base.specs.Words.{listed, concat}
 use Rattle.board.specs.Inner.{Marks}
 use Rattle.board.specs.declared.Seen.{Seen}
 use Rattle.board.proofs.Marks.{Passed, pass-none, pass-more, pass-stop, pass-end}
@@ -34,8 +34,8 @@ element-copy-out-mark-cell : tie.Need-element-copy-out-mark-cell Inv-loop μ-loo
 element-copy-out-mark-cell c = omega (arith, c .before .before .pre .1 .four)
 
 mark-cell-requires : tie.Need-mark-cell-requires Inv-loop μ-loop
-mark-cell-requires c κs =
-    (c .before .before .loop .inv .marks .below, c .before .before .before .pre .1 .codes (c .before .before .loop .i) (c .before .loop-test .taken))
+mark-cell-requires c κs = let p2 = c .before .before in let p3 = p2 .before in
+    (p2 .loop .inv .marks .below, p3 .pre .1 .codes (p2 .loop .i) (c .before .loop-test .taken))
 
 enum-known-more : tie.Need-enum-known-more Inv-loop μ-loop
 enum-known-more c = search needs
@@ -55,8 +55,8 @@ loop-less : tie.Need-loop-less Inv-loop μ-loop
 loop-less c = search needs
 
 loop-again : tie.Need-loop-again Inv-loop μ-loop
-loop-again c =
-    pass-more _ _ (c .before .before .before .before .before .before .loop .inv) (c .before .before .before .before .before .loop-test .taken) (c .before .before .before .mark-cell .ensures) (c .before .more .given .1)
+loop-again c = let p3 = c .before .before .before in let p5 = p3 .before .before in let p6 = p5 .before in
+    pass-more _ _ (p6 .loop .inv) (p5 .loop-test .taken) (p3 .mark-cell .ensures) (c .before .more .given .1)
 
 returns-2 : tie.Need-returns-2 Inv-loop μ-loop
 returns-2 c = whole _ (c .before .before .pre .1 .four) (pass-end _ _ (c .before .loop .inv) (c .loop-test .left))

@@ -3,13 +3,13 @@ use mathlib.Core.Path.{_≡_, sym, _∙_, subst}
 use mathlib.Core.List.{List}
 use Prim.Native.Nat.{ℕ, _-_, _<_}
 use native.Mathlib.Omega.{arith}
-use Rattle.card.specs.Words.{listed, concat}
+use Rattle.base.specs.Words.{listed, concat}
 use Rattle.board.specs.Inner.{Marks}
 use Rattle.board.proofs.Marks.{Passed, pass-none, pass-more, pass-stop, pass-end}
 use mathlib.Core.Bool.{true}
-use Rattle.card.specs.Words.{all}
+use Rattle.base.specs.Words.{all}
 use Rattle.card.specs.Card.{isCard}
-use Rattle.card.proofs.Words.{all-concat, every-at}
+use Rattle.base.proofs.Words.{all-concat, every-at}
 use Rattle.board.specs.Inner.{partAt}
 use Rattle.board.proofs.Tables.{part-is}
 use borrow.Author.Needs.{needs}
@@ -35,14 +35,14 @@ element-copy-out-start : tie.Need-element-copy-out-start Inv-loop μ-loop
 element-copy-out-start c = omega (arith, c .before .before .before .pre .1 .0 .starts8)
 
 element-copy-out-wide : tie.Need-element-copy-out-wide Inv-loop μ-loop
-element-copy-out-wide c = omega (arith, c .before .before .before .before .pre .1 .0 .counts8)
+element-copy-out-wide c = let p4 = c .before .before .before .before in omega (arith, p4 .pre .1 .0 .counts8)
 
 wide-requires : tie.Need-wide-requires Inv-loop μ-loop
 wide-requires c κs = search needs
 
 add-end : tie.Need-add-end Inv-loop μ-loop
-add-end c =
-    omega (arith, c .wide .ensures, c .before .before .before .before .before .before .pre .1 .0 .within (c .before .before .before .before .loop .i) (c .before .before .before .loop-test .taken), c .before .before .before .before .before .before .good)
+add-end c = let p3 = c .before .before .before in let p4 = p3 .before in let p6 = p4 .before .before in
+    omega (arith, c .wide .ensures, p6 .pre .1 .0 .within (p4 .loop .i) (p3 .loop-test .taken), p6 .good)
 
 sub-mark-all : tie.Need-sub-mark-all Inv-loop μ-loop
 sub-mark-all c = search needs
@@ -51,8 +51,8 @@ part-mark-all-start : tie.Need-part-mark-all-start Inv-loop μ-loop
 part-mark-all-start c = search needs
 
 part-mark-all-end : tie.Need-part-mark-all-end Inv-loop μ-loop
-part-mark-all-end c =
-    omega (arith, c .wide .ensures, c .before .before .before .before .before .before .pre .1 .0 .within (c .before .before .before .before .loop .i) (c .before .before .before .loop-test .taken))
+part-mark-all-end c = let p3 = c .before .before .before in let p4 = p3 .before in let p6 = p4 .before .before in
+    omega (arith, c .wide .ensures, p6 .pre .1 .0 .within (p4 .loop .i) (p3 .loop-test .taken))
 
 mark-all-requires : tie.Need-mark-all-requires Inv-loop μ-loop
 mark-all-requires c κs =

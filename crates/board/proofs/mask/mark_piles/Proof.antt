@@ -3,7 +3,7 @@ use mathlib.Core.List.{List}
 use Prim.Native.Nat.{ℕ, _-_}
 use native.Mathlib.Omega.{arith}
 use lib.ListN.{getD}
-use Rattle.card.specs.Words.{listed, concat}
+use Rattle.base.specs.Words.{listed, concat}
 use Rattle.board.specs.Inner.{Marks}
 use Rattle.board.specs.declared.Seen.{Seen}
 use Rattle.board.proofs.Marks.{Passed, pass-none, pass-more, pass-stop, pass-end}
@@ -35,8 +35,8 @@ element-copy-out-mark-pile : tie.Need-element-copy-out-mark-pile Inv-loop μ-loo
 element-copy-out-mark-pile c = omega (arith, c .before .before .pre .1 .four)
 
 mark-pile-requires : tie.Need-mark-pile-requires Inv-loop μ-loop
-mark-pile-requires c κs =
-    (c .before .before .loop .inv .marks .below, (c .before .loop-test .taken, c .before .before .before .pre .1 .within (c .before .before .loop .s) (c .before .loop-test .taken)))
+mark-pile-requires c κs = let p2 = c .before .before in let p3 = p2 .before in
+    (p2 .loop .inv .marks .below, (c .before .loop-test .taken, p3 .pre .1 .within (p2 .loop .s) (c .before .loop-test .taken)))
 
 enum-known-more : tie.Need-enum-known-more Inv-loop μ-loop
 enum-known-more c = search needs
@@ -45,8 +45,8 @@ enum-told : tie.Need-enum-told Inv-loop μ-loop
 enum-told c = search needs
 
 returns : tie.Need-returns Inv-loop μ-loop
-returns c =
-    whole _ (pass-stop _ _ (c .before .before .before .before .before .loop .inv) (c .before .before .before .before .loop-test .taken) (c .before .before .mark-pile .ensures) (c .enum-told .given .1))
+returns c = let p2 = c .before .before in let p4 = p2 .before .before in let p5 = p4 .before in
+    whole _ (pass-stop _ _ (p5 .loop .inv) (p4 .loop-test .taken) (p2 .mark-pile .ensures) (c .enum-told .given .1))
 
 add-s : tie.Need-add-s Inv-loop μ-loop
 add-s c = search needs
@@ -55,8 +55,8 @@ loop-less : tie.Need-loop-less Inv-loop μ-loop
 loop-less c = search needs
 
 loop-again : tie.Need-loop-again Inv-loop μ-loop
-loop-again c =
-    pass-more _ _ (c .before .before .before .before .before .before .loop .inv) (c .before .before .before .before .before .loop-test .taken) (c .before .before .before .mark-pile .ensures) (c .before .more .given .1)
+loop-again c = let p3 = c .before .before .before in let p5 = p3 .before .before in let p6 = p5 .before in
+    pass-more _ _ (p6 .loop .inv) (p5 .loop-test .taken) (p3 .mark-pile .ensures) (c .before .more .given .1)
 
 returns-2 : tie.Need-returns-2 Inv-loop μ-loop
 returns-2 c = whole _ (pass-end _ _ (c .before .loop .inv) (c .loop-test .left))

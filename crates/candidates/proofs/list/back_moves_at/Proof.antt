@@ -15,19 +15,19 @@ slice-aggregate-find-at : tie.Need-slice-aggregate-find-at
 slice-aggregate-find-at c = search needs
 
 find-at-requires : tie.Need-find-at-requires
-find-at-requires c κs = (c .before .before .before .before .before .before .before .pre .0, back-room (shown (c .before .before .before .before .before .before .before .args .t1)))
+find-at-requires c κs = let p7 = c .before .before .before .before .before .before .before in (p7 .pre .0, back-room (shown (p7 .args .t1)))
 
 slice-aggregate-choose : tie.Need-slice-aggregate-choose
 slice-aggregate-choose c = search needs
 
 choose-requires : tie.Need-choose-requires
-choose-requires c κs = (holds-written (c .before .before .before .find-at .ensures) (c .before .before .before .before .before .before .before .before .before .before .before .pre .0) (all-found (shown (c .before .before .before .before .before .before .before .before .before .before .before .args .t1)) (shows-fair (c .before .before .before .before .before .before .before .before .before .before .before .pre .0)) HomeToColumn) (omega (arith, back-room (shown (c .before .before .before .before .before .before .before .before .before .before .before .args .t1)))), (c .before .before .before .before .before .before .before .before .before .before .before .pre .1 .0, pick-room (c .before .before .before .find-at .ensures) (worthwhile (shown (c .before .before .before .before .before .before .before .before .before .before .before .args .t1))) _ _ (c .before .before .before .before .before .before .before .before .before .before .before .pre .1 .1)))
+choose-requires c κs = let p3 = c .before .before .before in let p11 = p3 .before .before .before .before .before .before .before .before in (holds-written (p3 .find-at .ensures) (p11 .pre .0) (all-found (shown (p11 .args .t1)) (shows-fair (p11 .pre .0)) HomeToColumn) (omega (arith, back-room (shown (p11 .args .t1)))), (p11 .pre .1 .0, pick-room (p3 .find-at .ensures) (worthwhile (shown (p11 .args .t1))) _ _ (p11 .pre .1 .1)))
 
 same-length : tie.Need-same-length
 same-length c = search needs
 
 returns : tie.Need-returns
-returns c = picked (c .before .before .before .before .before .before .find-at .ensures) (worthwhile (shown (c .before .before .before .before .before .before .before .before .before .before .before .before .before .before .args .t1))) (c .before .before .choose .ensures)
+returns c = let p2 = c .before .before in let p6 = p2 .before .before .before .before in let p14 = p6 .before .before .before .before .before .before .before .before in picked (p6 .find-at .ensures) (worthwhile (shown (p14 .args .t1))) (p2 .choose .ensures)
 
 pub back-moves-at-spec : {M : Type 1} → statement M
 back-moves-at-spec =

@@ -3,7 +3,8 @@ use mathlib.Core.List.{[], _∷_}
 use Prim.Native.Nat.{_-_}
 use native.Mathlib.Omega.{arith}
 use Rattle.board.specs.Record.{shown}
-use Rattle.generate.proofs.Writing.{Walked, walk-start, walk-long, walk-room, walk-on, walk-end, adds-same}
+use Rattle.moves.proofs.Writing.{adds-same}
+use Rattle.generate.proofs.Writing.{Walked, walk-start, walk-long, walk-room, walk-on, walk-end}
 use Rattle.safe.specs.Safe.{chosen}
 use Rattle.candidates.specs.Inner.{meets, moveAt}
 use Rattle.candidates.proofs.Listing.{part-ready, part-possible, part-fits, part-room, part-adds}
@@ -22,10 +23,10 @@ loop-holds : tie.Need-loop-holds Inv-loop μ-loop
 loop-holds c = walk-start _ _ _ _
 
 mul-from : tie.Need-mul-from Inv-loop μ-loop
-mul-from c = omega (arith, c .before .before .before .before .pre .0 .records .fits, c .loop-test .taken, c .before .before .before .before .good)
+mul-from c = let p4 = c .before .before .before .before in omega (arith, p4 .pre .0 .records .fits, c .loop-test .taken, p4 .good)
 
 add-to : tie.Need-add-to Inv-loop μ-loop
-add-to c = omega (arith, part-fits _ _ (c .before .before .before .before .pre .0) (c .loop-test .taken), c .before .before .before .before .good)
+add-to c = let p4 = c .before .before .before .before in omega (arith, part-fits _ _ (p4 .pre .0) (c .loop-test .taken), p4 .good)
 
 sub-keep : tie.Need-sub-keep Inv-loop μ-loop
 sub-keep c = search needs
@@ -34,25 +35,25 @@ part-keep-start : tie.Need-part-keep-start Inv-loop μ-loop
 part-keep-start c = search needs
 
 part-keep-end : tie.Need-part-keep-end Inv-loop μ-loop
-part-keep-end c = part-fits _ _ (c .before .before .before .before .pre .0) (c .loop-test .taken)
+part-keep-end c = let p4 = c .before .before .before .before in part-fits _ _ (p4 .pre .0) (c .loop-test .taken)
 
 keep-requires : tie.Need-keep-requires Inv-loop μ-loop
-keep-requires c κs = (part-ready (c .before .before .before .before .before .before .args .list .now) (c .before .before .before .loop .k) (c .before .before .before .before .before .before .pre .0) (c .before .before .loop-test .taken), (c .before .before .before .before .before .before .pre .1 .0, (part-possible (c .before .before .before .before .before .before .args .list .now) (c .before .before .before .loop .k) (c .before .before .before .before .before .before .pre .0) (c .before .before .loop-test .taken), part-room (c .before .before .before .before .before .before .args .list .now) (c .before .before .before .loop .k) (meets (c .before .before .before .before .before .before .args .test) (shown (c .before .before .before .before .before .before .args .b))) _ _ (walk-room (choice-room _ _ _ _ _ (c .before .before .before .before .before .before .pre .1 .1)) (c .before .before .before .loop .inv) (c .before .before .loop-test .taken)))))
+keep-requires c κs = let p2 = c .before .before in let p3 = p2 .before in let p6 = p3 .before .before .before in (part-ready (p6 .args .list .now) (p3 .loop .k) (p6 .pre .0) (p2 .loop-test .taken), (p6 .pre .1 .0, (part-possible (p6 .args .list .now) (p3 .loop .k) (p6 .pre .0) (p2 .loop-test .taken), part-room (p6 .args .list .now) (p3 .loop .k) (meets (p6 .args .test) (shown (p6 .args .b))) _ _ (walk-room (choice-room _ _ _ _ _ (p6 .pre .1 .1)) (p3 .loop .inv) (p2 .loop-test .taken)))))
 
 add-k : tie.Need-add-k Inv-loop μ-loop
-add-k c = omega (arith, c .before .before .before .before .before .loop-test .taken, c .before .before .before .before .before .before .before .before .before .fits .n)
+add-k c = let p5 = c .before .before .before .before .before in let p9 = p5 .before .before .before .before in omega (arith, p5 .loop-test .taken, p9 .fits .n)
 
 loop-less : tie.Need-loop-less Inv-loop μ-loop
-loop-less c = omega (arith, c .before .before .before .before .before .loop-test .taken)
+loop-less c = let p5 = c .before .before .before .before .before in omega (arith, p5 .loop-test .taken)
 
 loop-again : tie.Need-loop-again Inv-loop μ-loop
-loop-again c = walk-on (choice-room _ _ _ _ _ (c .before .before .before .before .before .before .before .before .before .pre .1 .1)) (c .before .before .before .before .before .before .loop .inv) (c .before .before .before .before .before .loop-test .taken) (part-adds (c .before .before .before .before .before .before .before .before .before .args .list .now) (c .before .before .before .before .before .before .loop .k) (meets (c .before .before .before .before .before .before .before .before .before .args .test) (shown (c .before .before .before .before .before .before .before .before .before .args .b))) (c .before .before .keep .ensures))
+loop-again c = let p2 = c .before .before in let p5 = p2 .before .before .before in let p6 = p5 .before in let p9 = p6 .before .before .before in walk-on (choice-room _ _ _ _ _ (p9 .pre .1 .1)) (p6 .loop .inv) (p5 .loop-test .taken) (part-adds (p9 .args .list .now) (p6 .loop .k) (meets (p9 .args .test) (shown (p9 .args .b))) (p2 .keep .ensures))
 
 same-length : tie.Need-same-length Inv-loop μ-loop
-same-length c = walk-long (choice-room _ _ _ _ _ (c .before .before .before .before .pre .1 .1)) (c .before .loop .inv)
+same-length c = let p4 = c .before .before .before .before in walk-long (choice-room _ _ _ _ _ (p4 .pre .1 .1)) (c .before .loop .inv)
 
 returns : tie.Need-returns Inv-loop μ-loop
-returns c = adds-same (chosen-moves (meets (c .before .before .before .before .args .test) (shown (c .before .before .before .before .args .b))) (c .before .before .before .before .args .list .now) (c .before .before .before .before .args .n)) (walk-end (choice-room _ _ _ _ _ (c .before .before .before .before .pre .1 .1)) (c .before .loop .inv) (c .loop-test .left))
+returns c = let p4 = c .before .before .before .before in adds-same (chosen-moves (meets (p4 .args .test) (shown (p4 .args .b))) (p4 .args .list .now) (p4 .args .n)) (walk-end (choice-room _ _ _ _ _ (p4 .pre .1 .1)) (c .before .loop .inv) (c .loop-test .left))
 
 pub choose-spec : {M : Type 1} → statement M
 choose-spec =

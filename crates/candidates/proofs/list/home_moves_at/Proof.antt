@@ -8,16 +8,16 @@ use Rattle.candidates.proofs.list.home_moves_at.Statement.{statement}
 use Rattle.candidates.proofs.list.home_moves_at.Tie as tie
 
 find-at-requires : tie.Need-find-at-requires
-find-at-requires c κs = (c .before .before .before .before .before .before .before .pre .0, first-room (found (shown (c .before .before .before .before .before .before .before .args .t1)) ColumnToHome) (found (shown (c .before .before .before .before .before .before .before .args .t1)) CellToHome) _ _ (home-room (shown (c .before .before .before .before .before .before .before .args .t1)) _ (c .before .before .before .before .before .before .before .pre .1)))
+find-at-requires c κs = let p7 = c .before .before .before .before .before .before .before in (p7 .pre .0, first-room (found (shown (p7 .args .t1)) ColumnToHome) (found (shown (p7 .args .t1)) CellToHome) _ _ (home-room (shown (p7 .args .t1)) _ (p7 .pre .1)))
 
 find-at-requires-2 : tie.Need-find-at-requires-2
-find-at-requires-2 c κs = (c .before .before .before .before .before .before .before .before .before .before .before .before .before .before .before .before .pre .0, next-room (found (shown (c .before .before .before .before .before .before .before .before .before .before .before .before .before .before .before .before .args .t1)) ColumnToHome) (found (shown (c .before .before .before .before .before .before .before .before .before .before .before .before .before .before .before .before .args .t1)) CellToHome) (home-room (shown (c .before .before .before .before .before .before .before .before .before .before .before .before .before .before .before .before .args .t1)) _ (c .before .before .before .before .before .before .before .before .before .before .before .before .before .before .before .before .pre .1)) (c .before .before .before .before .before .before .before .before .find-at .ensures))
+find-at-requires-2 c κs = let p8 = c .before .before .before .before .before .before .before .before in let p16 = p8 .before .before .before .before .before .before .before .before in (p16 .pre .0, next-room (found (shown (p16 .args .t1)) ColumnToHome) (found (shown (p16 .args .t1)) CellToHome) (home-room (shown (p16 .args .t1)) _ (p16 .pre .1)) (p8 .find-at .ensures))
 
 same-length : tie.Need-same-length
 same-length c = search needs
 
 returns : tie.Need-returns
-returns c = adds-home (shown (c .before .before .before .before .before .before .before .before .before .before .before .before .before .before .before .before .before .before .before .args .t1)) (adds-both (found (shown (c .before .before .before .before .before .before .before .before .before .before .before .before .before .before .before .before .before .before .before .args .t1)) ColumnToHome) (found (shown (c .before .before .before .before .before .before .before .before .before .before .before .before .before .before .before .before .before .before .before .args .t1)) CellToHome) (home-room (shown (c .before .before .before .before .before .before .before .before .before .before .before .before .before .before .before .before .before .before .before .args .t1)) _ (c .before .before .before .before .before .before .before .before .before .before .before .before .before .before .before .before .before .before .before .pre .1)) (c .before .before .before .before .before .before .before .before .before .before .before .find-at .ensures) (c .before .before .find-at2 .ensures))
+returns c = let p2 = c .before .before in let p11 = p2 .before .before .before .before .before .before .before .before .before in let p19 = p11 .before .before .before .before .before .before .before .before in adds-home (shown (p19 .args .t1)) (adds-both (found (shown (p19 .args .t1)) ColumnToHome) (found (shown (p19 .args .t1)) CellToHome) (home-room (shown (p19 .args .t1)) _ (p19 .pre .1)) (p11 .find-at .ensures) (p2 .find-at2 .ensures))
 
 pub home-moves-at-spec : {M : Type 1} → statement M
 home-moves-at-spec = tie.close (tie.spec find-at-requires find-at-requires-2 same-length returns)

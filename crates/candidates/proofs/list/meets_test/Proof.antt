@@ -27,13 +27,13 @@ is-better-requires : tie.Need-is-better-requires
 is-better-requires c κs = search needs
 
 returns : tie.Need-returns
-returns c = meets-safe (shown (c .before .before .before .args .b)) (c .before .before .before .args .m) (c .before .enum-told .given .1) (c .is-safe .ensures)
+returns c = let p3 = c .before .before .before in meets-safe (shown (p3 .args .b)) (p3 .args .m) (c .before .enum-told .given .1) (c .is-safe .ensures)
 
 returns-2 : tie.Need-returns-2
-returns-2 c = meets-unsafe (shown (c .before .before .before .args .b)) (c .before .before .before .args .m) (c .before .enum-told2 .given .1) (c .is-safe2 .ensures)
+returns-2 c = let p3 = c .before .before .before in meets-unsafe (shown (p3 .args .b)) (p3 .args .m) (c .before .enum-told2 .given .1) (c .is-safe2 .ensures)
 
 returns-3 : tie.Need-returns-3
-returns-3 c = meets-worth (shown (c .before .before .before .before .args .b)) (c .before .before .before .before .args .m) (c .before .before .enum-told3 .given .1) (c .before .before .before .before .pre .1) (c .before .features-after .ensures .0) (c .is-better .ensures)
+returns-3 c = let p2 = c .before .before in let p4 = p2 .before .before in meets-worth (shown (p4 .args .b)) (p4 .args .m) (p2 .enum-told3 .given .1) (p4 .pre .1) (c .before .features-after .ensures .0) (c .is-better .ensures)
 
 pub meets-test-spec : {M : Type 1} → statement M
 meets-test-spec =

@@ -9,19 +9,19 @@ use Rattle.candidates.proofs.list.other_moves_at.Statement.{statement}
 use Rattle.candidates.proofs.list.other_moves_at.Tie as tie
 
 find-at-requires : tie.Need-find-at-requires
-find-at-requires c κs = (c .before .before .before .before .before .before .before .pre .0, first-room (found (shown (c .before .before .before .before .before .before .before .args .t1)) ColumnToColumn) (found (shown (c .before .before .before .before .before .before .before .args .t1)) CellToColumn ++ found (shown (c .before .before .before .before .before .before .before .args .t1)) ColumnToCell) _ _ (c .before .before .before .before .before .before .before .pre .1))
+find-at-requires c κs = let p7 = c .before .before .before .before .before .before .before in (p7 .pre .0, first-room (found (shown (p7 .args .t1)) ColumnToColumn) (found (shown (p7 .args .t1)) CellToColumn ++ found (shown (p7 .args .t1)) ColumnToCell) _ _ (p7 .pre .1))
 
 find-at-requires-2 : tie.Need-find-at-requires-2
-find-at-requires-2 c κs = (c .before .before .before .before .before .before .before .before .before .before .before .before .before .before .before .before .pre .0, first-room (found (shown (c .before .before .before .before .before .before .before .before .before .before .before .before .before .before .before .before .args .t1)) CellToColumn) (found (shown (c .before .before .before .before .before .before .before .before .before .before .before .before .before .before .before .before .args .t1)) ColumnToCell) _ _ (next-room (found (shown (c .before .before .before .before .before .before .before .before .before .before .before .before .before .before .before .before .args .t1)) ColumnToColumn) (found (shown (c .before .before .before .before .before .before .before .before .before .before .before .before .before .before .before .before .args .t1)) CellToColumn ++ found (shown (c .before .before .before .before .before .before .before .before .before .before .before .before .before .before .before .before .args .t1)) ColumnToCell) (c .before .before .before .before .before .before .before .before .before .before .before .before .before .before .before .before .pre .1) (c .before .before .before .before .before .before .before .before .find-at .ensures)))
+find-at-requires-2 c κs = let p8 = c .before .before .before .before .before .before .before .before in let p16 = p8 .before .before .before .before .before .before .before .before in (p16 .pre .0, first-room (found (shown (p16 .args .t1)) CellToColumn) (found (shown (p16 .args .t1)) ColumnToCell) _ _ (next-room (found (shown (p16 .args .t1)) ColumnToColumn) (found (shown (p16 .args .t1)) CellToColumn ++ found (shown (p16 .args .t1)) ColumnToCell) (p16 .pre .1) (p8 .find-at .ensures)))
 
 find-at-requires-3 : tie.Need-find-at-requires-3
-find-at-requires-3 c κs = (c .before .before .before .before .before .before .before .before .before .before .before .before .before .before .before .before .before .before .before .before .before .before .before .before .before .pre .0, next-room (found (shown (c .before .before .before .before .before .before .before .before .before .before .before .before .before .before .before .before .before .before .before .before .before .before .before .before .before .args .t1)) CellToColumn) (found (shown (c .before .before .before .before .before .before .before .before .before .before .before .before .before .before .before .before .before .before .before .before .before .before .before .before .before .args .t1)) ColumnToCell) (next-room (found (shown (c .before .before .before .before .before .before .before .before .before .before .before .before .before .before .before .before .before .before .before .before .before .before .before .before .before .args .t1)) ColumnToColumn) (found (shown (c .before .before .before .before .before .before .before .before .before .before .before .before .before .before .before .before .before .before .before .before .before .before .before .before .before .args .t1)) CellToColumn ++ found (shown (c .before .before .before .before .before .before .before .before .before .before .before .before .before .before .before .before .before .before .before .before .before .before .before .before .before .args .t1)) ColumnToCell) (c .before .before .before .before .before .before .before .before .before .before .before .before .before .before .before .before .before .before .before .before .before .before .before .before .before .pre .1) (c .before .before .before .before .before .before .before .before .before .before .before .before .before .before .before .before .before .find-at .ensures)) (c .before .before .before .before .before .before .before .before .find-at2 .ensures))
+find-at-requires-3 c κs = let p8 = c .before .before .before .before .before .before .before .before in let p17 = p8 .before .before .before .before .before .before .before .before .before in let p25 = p17 .before .before .before .before .before .before .before .before in (p25 .pre .0, next-room (found (shown (p25 .args .t1)) CellToColumn) (found (shown (p25 .args .t1)) ColumnToCell) (next-room (found (shown (p25 .args .t1)) ColumnToColumn) (found (shown (p25 .args .t1)) CellToColumn ++ found (shown (p25 .args .t1)) ColumnToCell) (p25 .pre .1) (p17 .find-at .ensures)) (p8 .find-at2 .ensures))
 
 same-length : tie.Need-same-length
 same-length c = search needs
 
 returns : tie.Need-returns
-returns c = adds-both (found (shown (c .before .before .before .before .before .before .before .before .before .before .before .before .before .before .before .before .before .before .before .before .before .before .before .before .before .before .before .before .args .t1)) ColumnToColumn) (found (shown (c .before .before .before .before .before .before .before .before .before .before .before .before .before .before .before .before .before .before .before .before .before .before .before .before .before .before .before .before .args .t1)) CellToColumn ++ found (shown (c .before .before .before .before .before .before .before .before .before .before .before .before .before .before .before .before .before .before .before .before .before .before .before .before .before .before .before .before .args .t1)) ColumnToCell) (c .before .before .before .before .before .before .before .before .before .before .before .before .before .before .before .before .before .before .before .before .before .before .before .before .before .before .before .before .pre .1) (c .before .before .before .before .before .before .before .before .before .before .before .before .before .before .before .before .before .before .before .before .find-at .ensures) (adds-both (found (shown (c .before .before .before .before .before .before .before .before .before .before .before .before .before .before .before .before .before .before .before .before .before .before .before .before .before .before .before .before .args .t1)) CellToColumn) (found (shown (c .before .before .before .before .before .before .before .before .before .before .before .before .before .before .before .before .before .before .before .before .before .before .before .before .before .before .before .before .args .t1)) ColumnToCell) (next-room (found (shown (c .before .before .before .before .before .before .before .before .before .before .before .before .before .before .before .before .before .before .before .before .before .before .before .before .before .before .before .before .args .t1)) ColumnToColumn) (found (shown (c .before .before .before .before .before .before .before .before .before .before .before .before .before .before .before .before .before .before .before .before .before .before .before .before .before .before .before .before .args .t1)) CellToColumn ++ found (shown (c .before .before .before .before .before .before .before .before .before .before .before .before .before .before .before .before .before .before .before .before .before .before .before .before .before .before .before .before .args .t1)) ColumnToCell) (c .before .before .before .before .before .before .before .before .before .before .before .before .before .before .before .before .before .before .before .before .before .before .before .before .before .before .before .before .pre .1) (c .before .before .before .before .before .before .before .before .before .before .before .before .before .before .before .before .before .before .before .before .find-at .ensures)) (c .before .before .before .before .before .before .before .before .before .before .before .find-at2 .ensures) (c .before .before .find-at3 .ensures))
+returns c = let p2 = c .before .before in let p11 = p2 .before .before .before .before .before .before .before .before .before in let p20 = p11 .before .before .before .before .before .before .before .before .before in let p28 = p20 .before .before .before .before .before .before .before .before in adds-both (found (shown (p28 .args .t1)) ColumnToColumn) (found (shown (p28 .args .t1)) CellToColumn ++ found (shown (p28 .args .t1)) ColumnToCell) (p28 .pre .1) (p20 .find-at .ensures) (adds-both (found (shown (p28 .args .t1)) CellToColumn) (found (shown (p28 .args .t1)) ColumnToCell) (next-room (found (shown (p28 .args .t1)) ColumnToColumn) (found (shown (p28 .args .t1)) CellToColumn ++ found (shown (p28 .args .t1)) ColumnToCell) (p28 .pre .1) (p20 .find-at .ensures)) (p11 .find-at2 .ensures) (p2 .find-at3 .ensures))
 
 pub other-moves-at-spec : {M : Type 1} → statement M
 other-moves-at-spec =

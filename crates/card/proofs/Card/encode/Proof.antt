@@ -2,7 +2,7 @@
 use lib.Dec.{leb}
 use borrow.Author.Tests.{lt-leb}
 use Rattle.card.specs.Card.{codeAsked, isValue}
-use Rattle.card.proofs.Words.{second-fails}
+use Rattle.base.proofs.Words.{second-fails}
 use Rattle.card.proofs.Codes.{is-value}
 use Rattle.card.proofs.Card.encode.Statement.{statement}
 use Rattle.card.proofs.Card.encode.Tie as tie

@@ -17,7 +17,7 @@ mul-start : tie.Need-mul-start
 mul-start c = search needs
 
 element-copy-out-start : tie.Need-element-copy-out-start
-element-copy-out-start c = omega (arith, c .before .before .before .before .pre .0 .starts8)
+element-copy-out-start c = let p4 = c .before .before .before .before in omega (arith, p4 .pre .0 .starts8)
 
 add-at : tie.Need-add-at
 add-at c =
@@ -28,12 +28,12 @@ shared-slice-read-result c =
     omega (arith, c .before .before .before .wide .ensures, c .before .before .before .before .before .before .pre .0 .within (c .before .before .before .before .before .before .args .p / 52) (omega arith))
 
 returns : tie.Need-returns
-returns c =
-    sym (part-code (c .before .before .before .before .before .before .args .starts .now) (c .before .before .before .before .before .before .args .counts .now) (c .before .before .before .before .before .before .args .codes .now) (c .before .before .before .before .before .before .args .p / 52) (c .before .before .before .before .before .before .args .p % 52) (omega (arith, c .before .before .before .wide .ensures)))
+returns c = let p3 = c .before .before .before in let p6 = p3 .before .before .before in
+    sym (part-code (p6 .args .starts .now) (p6 .args .counts .now) (p6 .args .codes .now) (p6 .args .p / 52) (p6 .args .p % 52) (omega (arith, p3 .wide .ensures)))
 
 returns-2 : tie.Need-returns-2
-returns-2 c =
-    sym (part-past (c .before .before .before .before .args .starts .now) (c .before .before .before .before .args .counts .now) (c .before .before .before .before .args .codes .now) (c .before .before .before .before .args .p / 52) (c .before .before .before .before .args .p % 52) (omega (arith, c .before .wide .ensures)))
+returns-2 c = let p4 = c .before .before .before .before in
+    sym (part-past (p4 .args .starts .now) (p4 .args .counts .now) (p4 .args .codes .now) (p4 .args .p / 52) (p4 .args .p % 52) (omega (arith, c .before .wide .ensures)))
 
 pub code-at-spec : {M : Type 1} → statement M
 code-at-spec =

@@ -1,17 +1,18 @@
 -- What `fill` leaves to be shown: the array is filled place by place.
 use mathlib.Core.Path.{refl}
 use Prim.Native.Nat.{_-_}
-use Rattle.card.proofs.Filling.{Filled, filled-none, filled-more, filled-end}
+use Rattle.base.proofs.Filling.{Filled, filled-none, filled-more, filled-end}
 use Rattle.intake.specs.Inside.{partCode}
 use borrow.Author.Needs.{needs}
 use Rattle.intake.proofs.image.fill.Statement.{statement}
 use Rattle.intake.proofs.image.fill.Tie as tie
+use Rattle.board.specs.Record.{tableauRoom}
 
 abbrev Inv-loop : tie.InvT-loop
-Inv-loop starts counts codes tableau₀ p₀ tableau p = Filled (partCode starts counts codes) 416 tableau p
+Inv-loop starts counts codes tableau₀ p₀ tableau p = Filled (partCode starts counts codes) tableauRoom tableau p
 
 abbrev μ-loop : tie.MeasureT-loop
-μ-loop starts counts codes tableau₀ p₀ tableau p = 416 - p
+μ-loop starts counts codes tableau₀ p₀ tableau p = tableauRoom - p
 
 loop-holds : tie.Need-loop-holds Inv-loop μ-loop
 loop-holds c =
@@ -30,12 +31,12 @@ loop-less : tie.Need-loop-less Inv-loop μ-loop
 loop-less c = search needs
 
 loop-again : tie.Need-loop-again Inv-loop μ-loop
-loop-again c =
-    filled-more (partCode (c .before .before .before .before .args .starts .now) (c .before .before .before .before .args .counts .now) (c .before .before .before .before .args .codes .now)) (c .before .before .loop .inv) (c .before .loop-test .taken) (c .code-at .ensures)
+loop-again c = let p2 = c .before .before in let p4 = p2 .before .before in
+    filled-more (partCode (p4 .args .starts .now) (p4 .args .counts .now) (p4 .args .codes .now)) (p2 .loop .inv) (c .before .loop-test .taken) (c .code-at .ensures)
 
 returns : tie.Need-returns Inv-loop μ-loop
-returns c =
-    filled-end (partCode (c .before .before .before .args .starts .now) (c .before .before .before .args .counts .now) (c .before .before .before .args .codes .now)) (c .before .loop .inv) (c .loop-test .left)
+returns c = let p3 = c .before .before .before in
+    filled-end (partCode (p3 .args .starts .now) (p3 .args .counts .now) (p3 .args .codes .now)) (c .before .loop .inv) (c .loop-test .left)
 
 pub fill-spec : {M : Type 1} → statement M
 fill-spec =

@@ -1,7 +1,7 @@
 -- What `find_columns` leaves to be shown: a walk over the image's columns.
 use Prim.Native.Nat.{_-_}
 use native.Mathlib.Omega.{arith}
-use Rattle.card.specs.Answer.{given}
+use Rattle.base.specs.Answer.{given}
 use Rattle.intake.proofs.Walking.{Walk, walk-start, walk-short, walk-past, walk-over, walk-end, walk-next}
 use borrow.Author.Needs.{needs}
 use Rattle.intake.proofs.image.find_columns.Statement.{statement}
@@ -29,12 +29,12 @@ wide-requires : tie.Need-wide-requires Inv-loop μ-loop
 wide-requires c κs = search needs
 
 add-end : tie.Need-add-end Inv-loop μ-loop
-add-end c =
-    omega (arith, c .wide .ensures, c .before .shared-slice-known2 .given (c .before .before .before .before .loop .at), c .before .before .before .before .before .before .good .0)
+add-end c = let p4 = c .before .before .before .before in let p6 = p4 .before .before in
+    omega (arith, c .wide .ensures, c .before .shared-slice-known2 .given (p4 .loop .at), p6 .good .0)
 
 returns-2 : tie.Need-returns-2 Inv-loop μ-loop
-returns-2 c =
-    walk-past (c .before .before .before .before .before .loop .inv) (c .before .before .before .before .loop-test .taken) (c .before .before .before .if1 .left) (c .before .wide .result) (c .before .wide .ensures) (c .if2 .taken)
+returns-2 c = let p3 = c .before .before .before in let p4 = p3 .before in let p5 = p4 .before in
+    walk-past (p5 .loop .inv) (p4 .loop-test .taken) (p3 .if1 .left) (c .before .wide .result) (c .before .wide .ensures) (c .if2 .taken)
 
 mul-starts : tie.Need-mul-starts Inv-loop μ-loop
 mul-starts c = search needs
@@ -52,8 +52,8 @@ loop-less : tie.Need-loop-less Inv-loop μ-loop
 loop-less c = search needs
 
 loop-again : tie.Need-loop-again Inv-loop μ-loop
-loop-again c =
-    walk-next (c .before .before .before .before .before .loop .inv) (c .before .before .before .before .loop-test .taken) (c .before .wide .result) (c .before .wide .ensures) (c .if2 .left)
+loop-again c = let p4 = c .before .before .before .before in let p5 = p4 .before in
+    walk-next (p5 .loop .inv) (p4 .loop-test .taken) (c .before .wide .result) (c .before .wide .ensures) (c .if2 .left)
 
 returns-3 : tie.Need-returns-3 Inv-loop μ-loop
 returns-3 c = walk-over (c .before .before .loop .inv) (c .before .loop-test .left) (c .if3 .taken)

@@ -26,8 +26,8 @@ shared-slice-read-fourth : tie.Need-shared-slice-read-fourth
 shared-slice-read-fourth c = search needs
 
 returns : tie.Need-returns
-returns c =
-    take-four (c .before .before .before .before .args .image .now) (c .before .before .before .before .args .at) (c .before .before .before .before .pre)
+returns c = let p4 = c .before .before .before .before in
+    take-four (p4 .args .image .now) (p4 .args .at) (p4 .pre)
 
 pub four-at-spec : {M : Type 1} → statement M
 four-at-spec =

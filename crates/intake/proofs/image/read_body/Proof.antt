@@ -4,7 +4,7 @@ use mathlib.Core.List.{List}
 use Prim.Native.Nat.{ℕ}
 use native.Mathlib.Omega.{arith}
 use borrow.Author.Tests.{not-true, not-false}
-use Rattle.card.specs.Answer.{given}
+use Rattle.base.specs.Answer.{given}
 use Rattle.board.specs.declared.Board.{Board}
 use Rattle.board.proofs.Tables.{good-piles}
 use Rattle.intake.proofs.Parts.{four-long}
@@ -12,13 +12,14 @@ use Rattle.intake.proofs.Imaging.{hands-no, hands-yes, board-of-parts, 
 use borrow.Author.Needs.{needs}
 use Rattle.intake.proofs.image.read_body.Statement.{statement}
 use Rattle.intake.proofs.image.read_body.Tie as tie
+use Rattle.board.specs.Record.{laid}
 
 no-board-requires : tie.Need-no-board-requires
 no-board-requires c κs = search needs
 
 returns : tie.Need-returns
-returns c =
-    hands-no (c .no-board .ensures) (body-short (c .before .before .before .args .image .now) (c .before .if1 .taken))
+returns c = let p3 = c .before .before .before in
+    hands-no (c .no-board .ensures) (body-short (p3 .args .image .now) (c .before .if1 .taken))
 
 four-at-requires : tie.Need-four-at-requires
 four-at-requires c κs = search needs
@@ -52,8 +53,8 @@ returns-3 c =
     (body-columns (c .before .before .before .before .before .before .before .before .before .before .before .args .image .now) (c .before .before .before .before .before .before .before .before .before .if1 .left) (c .before .before .before .before .before .before .before .before .four-at .ensures) (c .before .before .before .before .before .before .before .four-at2 .ensures) (sym (c .before .before .before .before .before .all-of .ensures) ∙ not-false _ (c .before .before .before .before .if2 .left)) (c .before .before .before .find-columns .ensures .none (not-true _ (c .before .if3 .taken)))
     ∙ columns-refused (c .before .before .before .before .before .before .before .before .four-at .result) (c .before .before .before .before .before .before .before .four-at2 .result))
 
-judge-requires : tie.Need-judge-requires
-judge-requires c κs = (
+verdict-on-requires : tie.Need-verdict-on-requires
+verdict-on-requires c κs = (
   four-long (c .before .before .before .before .before .before .before .before .before .before .before .before .before .before .before .before .args .image .now) (c .before .before .before .before .before .before .before .before .before .before .before .before .before .four-at .result) 3 (omega arith) (c .before .before .before .before .before .before .before .before .before .before .before .before .before .four-at .ensures),
   (good-piles (c .before .before .before .before .before .before .before .before .before .before .before .before .four-at2 .result) (four-long (c .before .before .before .before .before .before .before .before .before .before .before .before .before .before .before .before .args .image .now) (c .before .before .before .before .before .before .before .before .before .before .before .before .four-at2 .result) 7 (omega arith) (c .before .before .before .before .before .before .before .before .before .before .before .before .four-at2 .ensures)) (sym (c .before .before .before .before .before .before .before .before .before .before .all-of .ensures) ∙ not-false _ (c .before .before .before .before .before .before .before .before .before .if2 .left)), (c .before .before .before .before .before .before .before .before .find-columns .ensures .parts (not-false _ (c .before .before .before .before .before .before .if3 .left)))),
 )
@@ -68,22 +69,22 @@ returns-4 : tie.Need-returns-4
 returns-4 c =
     hands-no (c .no-board4 .ensures)
     (body-columns (c .before .before .before .before .before .before .before .before .before .before .before .before .before .before .before .before .before .before .before .before .before .args .image .now) (c .before .before .before .before .before .before .before .before .before .before .before .before .before .before .before .before .before .before .before .if1 .left) (c .before .before .before .before .before .before .before .before .before .before .before .before .before .before .before .before .before .before .four-at .ensures) (c .before .before .before .before .before .before .before .before .before .before .before .before .before .before .before .before .before .four-at2 .ensures) (sym (c .before .before .before .before .before .before .before .before .before .before .before .before .before .before .before .all-of .ensures) ∙ not-false _ (c .before .before .before .before .before .before .before .before .before .before .before .before .before .before .if2 .left)) (c .before .before .before .before .before .before .before .before .before .before .before .before .before .find-columns .ensures .columns (not-false _ (c .before .before .before .before .before .before .before .before .before .before .before .if3 .left)))
-    ∙ columns-bad (c .before .before .before .before .before .before .before .before .before .before .before .before .before .before .before .before .before .before .four-at .result) (c .before .before .before .before .before .before .before .before .before .before .before .before .before .before .before .before .before .four-at2 .result) _ (c .before .before .before .before .judge .ensures) (c .before .before .why .given .1))
+    ∙ columns-bad (c .before .before .before .before .before .before .before .before .before .before .before .before .before .before .before .before .before .before .four-at .result) (c .before .before .before .before .before .before .before .before .before .before .before .before .before .before .before .before .before .four-at2 .result) _ (c .before .before .before .before .verdict-on .ensures) (c .before .before .why .given .1))
 
 enum-told : tie.Need-enum-told
 enum-told c = search needs
 
 fill-requires : tie.Need-fill-requires
-fill-requires c κs =
-    (c .before .before .before .before .before .before .before .before .before .before .before .before .before .find-columns .ensures .parts (not-false _ (c .before .before .before .before .before .before .before .before .before .before .before .if3 .left)))
+fill-requires c κs = let p11 = c .before .before .before .before .before .before .before .before .before .before .before in let p13 = p11 .before .before in
+    (p13 .find-columns .ensures .parts (not-false _ (p11 .if3 .left)))
 
 returns-5 : tie.Need-returns-5
 returns-5 c =
     hands-yes
     (body-columns (c .before .before .before .before .before .before .before .before .before .before .before .before .before .before .before .before .before .before .before .before .before .before .args .image .now) (c .before .before .before .before .before .before .before .before .before .before .before .before .before .before .before .before .before .before .before .before .if1 .left) (c .before .before .before .before .before .before .before .before .before .before .before .before .before .before .before .before .before .before .before .four-at .ensures) (c .before .before .before .before .before .before .before .before .before .before .before .before .before .before .before .before .before .before .four-at2 .ensures) (sym (c .before .before .before .before .before .before .before .before .before .before .before .before .before .before .before .before .all-of .ensures) ∙ not-false _ (c .before .before .before .before .before .before .before .before .before .before .before .before .before .before .before .if2 .left)) (c .before .before .before .before .before .before .before .before .before .before .before .before .before .before .find-columns .ensures .columns (not-false _ (c .before .before .before .before .before .before .before .before .before .before .before .before .if3 .left)))
-    ∙ columns-good (c .before .before .before .before .before .before .before .before .before .before .before .before .before .before .before .before .before .before .before .four-at .result) (c .before .before .before .before .before .before .before .before .before .before .before .before .before .before .before .before .before .before .four-at2 .result) _ (c .before .before .before .before .before .judge .ensures) (c .before .before .before .enum-told .given .1)
+    ∙ columns-good (c .before .before .before .before .before .before .before .before .before .before .before .before .before .before .before .before .before .before .before .four-at .result) (c .before .before .before .before .before .before .before .before .before .before .before .before .before .before .before .before .before .before .four-at2 .result) _ (c .before .before .before .before .before .verdict-on .ensures) (c .before .before .before .enum-told .given .1)
     ∙ ap (λ (b : Board). given b) (board-of-parts (c .before .before .before .before .before .before .before .before .before .before .before .before .before .before .before .before .before .before .before .four-at .result) (c .before .before .before .before .before .before .before .before .before .before .before .before .before .before .before .before .before .before .four-at2 .result) _ _ _ (c .before .before .before .before .before .before .before .before .before .before .before .before .before .before .find-columns .ensures .parts (not-false _ (c .before .before .before .before .before .before .before .before .before .before .before .before .if3 .left))))
-    ∙ ap (λ (t : List ℕ). given (record { cells = c .before .before .before .before .before .before .before .before .before .before .before .before .before .before .before .before .before .before .before .four-at .result; foundation = c .before .before .before .before .before .before .before .before .before .before .before .before .before .before .before .before .before .before .four-at2 .result; counts = c .before .before .before .before .before .before .before .before .before .before .before .before .before .before .find-columns .result .counts; tableau = t })) (sym (c .fill .ensures)))
+    ∙ ap (λ (t : List ℕ). given (laid (c .before .before .before .before .before .before .before .before .before .before .before .before .before .before .before .before .before .before .before .four-at .result) (c .before .before .before .before .before .before .before .before .before .before .before .before .before .before .before .before .before .before .four-at2 .result) (c .before .before .before .before .before .before .before .before .before .before .before .before .before .before .find-columns .result .counts) t)) (sym (c .fill .ensures)))
 
 pub read-body-spec : {M : Type 1} → statement M
 read-body-spec =
@@ -100,7 +101,7 @@ read-body-spec =
     find-columns-requires
     no-board-requires-3
     returns-3
-    judge-requires
+    verdict-on-requires
     enum-known-why
     no-board-requires-4
     returns-4

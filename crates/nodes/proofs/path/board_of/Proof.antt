@@ -9,13 +9,13 @@ slice-aggregate-climb : tie.Need-slice-aggregate-climb
 slice-aggregate-climb c = search needs
 
 climb-requires : tie.Need-climb-requires
-climb-requires c κs = (c .before .before .pre .1 .0 .linked, (c .before .before .pre .1 .1, node-few (c .before .before .pre .1 .0) _ (c .before .before .pre .1 .1)))
+climb-requires c κs = let p2 = c .before .before in (p2 .pre .1 .0 .linked, (p2 .pre .1 .1, node-few (p2 .pre .1 .0) _ (p2 .pre .1 .1)))
 
 slice-aggregate-play-down : tie.Need-slice-aggregate-play-down
 slice-aggregate-play-down c = search needs
 
 play-down-requires : tie.Need-play-down-requires
-play-down-requires c κs = path-leads (c .before .before .climb .ensures) (c .before .before .before .before .before .pre .0) (node-steps (c .before .before .before .before .before .pre .1 .0) _ (c .before .before .before .before .before .pre .1 .1)) (node-costs (c .before .before .before .before .before .pre .1 .0) _ (c .before .before .before .before .before .pre .1 .1))
+play-down-requires c κs = let p2 = c .before .before in let p5 = p2 .before .before .before in path-leads (p2 .climb .ensures) (p5 .pre .0) (node-steps (p5 .pre .1 .0) _ (p5 .pre .1 .1)) (node-costs (p5 .pre .1 .0) _ (p5 .pre .1 .1))
 
 returns : tie.Need-returns
 returns c = (node-board _ _ _ (c .before .before .before .climb .ensures) (c .play-down .ensures .0), c .play-down .ensures .1)

@@ -15,7 +15,7 @@ enum-told : tie.Need-enum-told
 enum-told c = search needs
 
 returns : tie.Need-returns
-returns c = absurd (step-never (c .before .before .before .pre .0) (c .before .before .before .pre .1 .0) (c .before .before .move-in .ensures) (c .enum-told .given .1))
+returns c = let p2 = c .before .before in let p3 = p2 .before in absurd (step-never (p3 .pre .0) (p3 .pre .1 .0) (p2 .move-in .ensures) (c .enum-told .given .1))
 
 cost-in-requires : tie.Need-cost-in-requires
 cost-in-requires c κs = search needs
@@ -24,16 +24,16 @@ sub-spent : tie.Need-sub-spent
 sub-spent c = search needs
 
 apply-to-requires : tie.Need-apply-to-requires
-apply-to-requires c κs = step-goes (c .before .before .before .before .before .before .before .before .before .before .pre .0) (c .before .before .before .before .before .before .before .before .before .before .pre .1 .0) (c .before .before .before .before .before .before .before .before .before .move-in .ensures) (c .before .before .before .before .before .before .before .m .given .1)
+apply-to-requires c κs = let p7 = c .before .before .before .before .before .before .before in let p9 = p7 .before .before in let p10 = p9 .before in step-goes (p10 .pre .0) (p10 .pre .1 .0) (p9 .move-in .ensures) (p7 .m .given .1)
 
 returns-2 : tie.Need-returns-2
-returns-2 c = step-alone (c .before .before .before .before .before .before .before .before .before .before .before .pre .0) (c .before .before .before .before .before .before .before .before .before .before .before .pre .1 .0) (c .before .before .before .before .before .before .before .before .before .before .move-in .ensures) (c .before .before .before .before .before .before .before .before .m .given .1) (c .before .before .before .before .before .before .before .before .before .before .before .pre .1 .1) (c .before .before .before .before .before .before .cost-in .ensures) (omega (arith, c .before .before .before .before .before .if1 .taken)) (c .apply-to .ensures)
+returns-2 c = let p5 = c .before .before .before .before .before in let p6 = p5 .before in let p8 = p6 .before .before in let p10 = p8 .before .before in let p11 = p10 .before in step-alone (p11 .pre .0) (p11 .pre .1 .0) (p10 .move-in .ensures) (p8 .m .given .1) (p11 .pre .1 .1) (p6 .cost-in .ensures) (omega (arith, p5 .if1 .taken)) (c .apply-to .ensures)
 
 child-to-requires : tie.Need-child-to-requires
-child-to-requires c κs = step-goes (c .before .before .before .before .before .before .before .before .before .before .pre .0) (c .before .before .before .before .before .before .before .before .before .before .pre .1 .0) (c .before .before .before .before .before .before .before .before .before .move-in .ensures) (c .before .before .before .before .before .before .before .m .given .1)
+child-to-requires c κs = let p7 = c .before .before .before .before .before .before .before in let p9 = p7 .before .before in let p10 = p9 .before in step-goes (p10 .pre .0) (p10 .pre .1 .0) (p9 .move-in .ensures) (p7 .m .given .1)
 
 returns-3 : tie.Need-returns-3
-returns-3 c = step-plays (c .before .before .before .before .before .before .before .before .before .before .before .pre .0) (c .before .before .before .before .before .before .before .before .before .before .before .pre .1 .0) (c .before .before .before .before .before .before .before .before .before .before .move-in .ensures) (c .before .before .before .before .before .before .before .before .m .given .1) (c .child-to .ensures .0) (c .child-to .ensures .1)
+returns-3 c = let p8 = c .before .before .before .before .before .before .before .before in let p10 = p8 .before .before in let p11 = p10 .before in step-plays (p11 .pre .0) (p11 .pre .1 .0) (p10 .move-in .ensures) (p8 .m .given .1) (c .child-to .ensures .0) (c .child-to .ensures .1)
 
 pub play-step-spec : {M : Type 1} → statement M
 play-step-spec =

@@ -14,7 +14,7 @@ same-length : tie.Need-same-length
 same-length c = search needs
 
 returns : tie.Need-returns
-returns c = added-by (c .before .before .put .ensures) (c .before .before .before .before .step-word .ensures)
+returns c = let p2 = c .before .before in let p4 = p2 .before .before in added-by (p2 .put .ensures) (p4 .step-word .ensures)
 
 pub add-node-spec : {M : Type 1} → statement M
 add-node-spec = tie.close (tie.spec step-word-requires put-requires same-length returns)

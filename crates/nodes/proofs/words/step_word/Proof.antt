@@ -38,10 +38,10 @@ wide-requires-5 : tie.Need-wide-requires-5
 wide-requires-5 c κs = search needs
 
 pack-requires : tie.Need-pack-requires
-pack-requires c κs = (small-numbers (c .before .before .before .before .before .before .args .m) (c .before .before .before .before .before .encode .ensures) (c .before .before .before .before .wide .ensures) (c .before .before .before .wide2 .ensures) (c .before .before .wide3 .ensures) (c .before .wide4 .ensures) (c .wide5 .ensures) (c .before .before .before .before .before .before .pre .0) (c .before .before .before .before .before .before .pre .1 .0), c .before .before .before .before .before .before .pre .1 .1)
+pack-requires c κs = let p2 = c .before .before in let p3 = p2 .before in let p4 = p3 .before in let p5 = p4 .before in let p6 = p5 .before in (small-numbers (p6 .args .m) (p5 .encode .ensures) (p4 .wide .ensures) (p3 .wide2 .ensures) (p2 .wide3 .ensures) (c .before .wide4 .ensures) (c .wide5 .ensures) (p6 .pre .0) (p6 .pre .1 .0), p6 .pre .1 .1)
 
 returns : tie.Need-returns
-returns c = packed-step (c .before .before .before .before .before .before .before .args .m) (c .before .before .before .before .before .before .encode .ensures) (c .before .before .before .before .before .wide .ensures) (c .before .before .before .before .wide2 .ensures) (c .before .before .before .wide3 .ensures) (c .before .before .wide4 .ensures) (c .before .wide5 .ensures) _ (c .pack .ensures)
+returns c = let p2 = c .before .before in let p3 = p2 .before in let p4 = p3 .before in let p5 = p4 .before in let p6 = p5 .before in let p7 = p6 .before in packed-step (p7 .args .m) (p6 .encode .ensures) (p5 .wide .ensures) (p4 .wide2 .ensures) (p3 .wide3 .ensures) (p2 .wide4 .ensures) (c .before .wide5 .ensures) _ (c .pack .ensures)
 
 pub step-word-spec : {M : Type 1} → statement M
 step-word-spec =

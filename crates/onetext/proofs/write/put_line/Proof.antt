@@ -13,16 +13,16 @@ wide-requires : tie.Need-wide-requires
 wide-requires c κs = search needs
 
 put-number-requires : tie.Need-put-number-requires
-put-number-requires c κs = (omega (arith, c .before .wide .ensures, c .before .before .shared-slice-known2 .given 0), omega (arith, c .before .before .before .before .before .pre .0, c .before .before .before .before .before .pre .1, long-three (c .before .wide .result) (omega (arith, c .before .wide .ensures, c .before .before .shared-slice-known2 .given 0))))
+put-number-requires c κs = let p2 = c .before .before in let p5 = p2 .before .before .before in (omega (arith, c .before .wide .ensures, p2 .shared-slice-known2 .given 0), omega (arith, p5 .pre .0, p5 .pre .1, long-three (c .before .wide .result) (omega (arith, c .before .wide .ensures, p2 .shared-slice-known2 .given 0))))
 
 put-rest-requires : tie.Need-put-rest-requires
-put-rest-requires c κs = (c .before .before .before .before .before .before .before .before .before .pre .0, rest-room (c .before .before .before .before .before .before .before .before .before .args .numbers .now) (c .before .before .before .before .before .wide .result) (c .before .before .before .before .before .before .before .before .before .pre .0) (c .before .before .before .before .before .before .before .before .before .pre .1) (omega (arith, c .before .before .before .before .before .wide .ensures, c .before .before .before .before .before .before .shared-slice-known2 .given 0)) (c .before .before .before .put-number .ensures))
+put-rest-requires c κs = let p3 = c .before .before .before in let p5 = p3 .before .before in let p6 = p5 .before in let p9 = p6 .before .before .before in (p9 .pre .0, rest-room (p9 .args .numbers .now) (p5 .wide .result) (p9 .pre .0) (p9 .pre .1) (omega (arith, p5 .wide .ensures, p6 .shared-slice-known2 .given 0)) (p3 .put-number .ensures))
 
 same-length : tie.Need-same-length
 same-length c = search needs
 
 returns : tie.Need-returns
-returns c = line-puts (c .before .before .before .before .before .before .before .before .before .before .before .before .args .numbers .now) (c .before .before .before .before .before .before .before .before .wide .result) (c .before .before .before .before .before .before .before .before .before .before .before .before .pre .0) (c .before .before .before .before .before .before .before .before .before .before .before .before .pre .1) (omega (arith, c .before .before .before .before .before .before .before .before .wide .ensures, c .before .before .before .before .before .before .before .before .before .shared-slice-known2 .given 0)) (c .before .before .before .before .before .before .put-number .ensures) (c .before .before .before .before .before .before .before .before .wide .ensures) (c .before .before .put-rest .ensures)
+returns c = let p2 = c .before .before in let p6 = p2 .before .before .before .before in let p8 = p6 .before .before in let p9 = p8 .before in let p12 = p9 .before .before .before in line-puts (p12 .args .numbers .now) (p8 .wide .result) (p12 .pre .0) (p12 .pre .1) (omega (arith, p8 .wide .ensures, p9 .shared-slice-known2 .given 0)) (p6 .put-number .ensures) (p8 .wide .ensures) (p2 .put-rest .ensures)
 
 pub put-line-spec : {M : Type 1} → statement M
 put-line-spec =

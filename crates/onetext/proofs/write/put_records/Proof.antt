@@ -13,13 +13,13 @@ abbrev μ-loop : tie.MeasureT-loop
 μ-loop out₀ at list n to₀ k₀ out to k = n - k
 
 loop-holds : tie.Need-loop-holds Inv-loop μ-loop
-loop-holds c = record-start (c .before .before .args .out .now) (c .before .before .args .list .now) (c .before .before .args .n) (c .before .before .args .at) (c .before .before .pre .1)
+loop-holds c = let p2 = c .before .before in record-start (p2 .args .out .now) (p2 .args .list .now) (p2 .args .n) (p2 .args .at) (p2 .pre .1)
 
 mul-start : tie.Need-mul-start Inv-loop μ-loop
-mul-start c = omega (arith, c .before .before .before .before .pre .0, c .loop-test .taken, c .before .before .before .before .good)
+mul-start c = let p4 = c .before .before .before .before in omega (arith, p4 .pre .0, c .loop-test .taken, p4 .good)
 
 add-end : tie.Need-add-end Inv-loop μ-loop
-add-end c = omega (arith, c .before .before .before .before .pre .0, c .loop-test .taken, c .before .before .before .before .good)
+add-end c = let p4 = c .before .before .before .before in omega (arith, p4 .pre .0, c .loop-test .taken, p4 .good)
 
 sub-put-line : tie.Need-sub-put-line Inv-loop μ-loop
 sub-put-line c = search needs
@@ -28,10 +28,10 @@ part-put-line-start : tie.Need-part-put-line-start Inv-loop μ-loop
 part-put-line-start c = search needs
 
 part-put-line-end : tie.Need-part-put-line-end Inv-loop μ-loop
-part-put-line-end c = omega (arith, c .before .before .before .before .before .pre .0, c .before .loop-test .taken)
+part-put-line-end c = let p5 = c .before .before .before .before .before in omega (arith, p5 .pre .0, c .before .loop-test .taken)
 
 put-line-requires : tie.Need-put-line-requires Inv-loop μ-loop
-put-line-requires c κs = (omega (arith, lent-five (c .before .before .before .before .before .before .args .list .now) (c .before .before .before .before .before .before .args .n) (c .before .before .before .loop .k) (c .before .before .before .before .before .before .pre .0) (c .before .before .loop-test .taken)), record-room (c .before .before .before .before .before .before .pre .0) (c .before .before .before .before .before .before .pre .1) (c .before .before .before .loop .inv) (c .before .before .loop-test .taken))
+put-line-requires c κs = let p2 = c .before .before in let p3 = p2 .before in let p6 = p3 .before .before .before in (omega (arith, lent-five (p6 .args .list .now) (p6 .args .n) (p3 .loop .k) (p6 .pre .0) (p2 .loop-test .taken)), record-room (p6 .pre .0) (p6 .pre .1) (p3 .loop .inv) (p2 .loop-test .taken))
 
 add-k : tie.Need-add-k Inv-loop μ-loop
 add-k c = search needs
@@ -40,13 +40,13 @@ loop-less : tie.Need-loop-less Inv-loop μ-loop
 loop-less c = search needs
 
 loop-again : tie.Need-loop-again Inv-loop μ-loop
-loop-again c = record-on (c .before .before .before .before .before .before .before .before .before .pre .0) (c .before .before .before .before .before .before .before .before .before .pre .1) (c .before .before .before .before .before .before .loop .inv) (c .before .before .before .before .before .loop-test .taken) (c .before .before .put-line .ensures)
+loop-again c = let p2 = c .before .before in let p5 = p2 .before .before .before in let p6 = p5 .before in let p9 = p6 .before .before .before in record-on (p9 .pre .0) (p9 .pre .1) (p6 .loop .inv) (p5 .loop-test .taken) (p2 .put-line .ensures)
 
 same-length : tie.Need-same-length Inv-loop μ-loop
-same-length c = recorded-long (c .before .before .before .before .pre .0) (c .before .before .before .before .pre .1) (c .before .loop .inv)
+same-length c = let p4 = c .before .before .before .before in recorded-long (p4 .pre .0) (p4 .pre .1) (c .before .loop .inv)
 
 returns : tie.Need-returns Inv-loop μ-loop
-returns c = record-done (c .before .before .before .before .pre .0) (c .before .before .before .before .pre .1) (c .before .loop .inv) (c .loop-test .left)
+returns c = let p4 = c .before .before .before .before in record-done (p4 .pre .0) (p4 .pre .1) (c .before .loop .inv) (c .loop-test .left)
 
 pub put-records-spec : {M : Type 1} → statement M
 put-records-spec =

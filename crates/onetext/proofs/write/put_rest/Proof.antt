@@ -14,7 +14,7 @@ abbrev μ-loop : tie.MeasureT-loop
 μ-loop out₀ at numbers to₀ k₀ t7 t8 out to k = length numbers - k
 
 loop-holds : tie.Need-loop-holds Inv-loop μ-loop
-loop-holds c = rest-start (c .before .before .pre .0) (c .before .before .pre .1)
+loop-holds c = let p2 = c .before .before in rest-start (p2 .pre .0) (p2 .pre .1)
 
 shared-slice-read-wide : tie.Need-shared-slice-read-wide Inv-loop μ-loop
 shared-slice-read-wide c = search needs
@@ -26,7 +26,7 @@ slice-aggregate-put : tie.Need-slice-aggregate-put Inv-loop μ-loop
 slice-aggregate-put c = search needs
 
 put-requires : tie.Need-put-requires Inv-loop μ-loop
-put-requires c κs = (omega (arith, c .before .before .wide .ensures, c .before .before .before .shared-slice-known2 .given (c .before .before .before .before .before .loop .k)), next-room (c .before .before .before .before .before .before .before .before .pre .0) (c .before .before .before .before .before .before .before .before .pre .1) (c .before .before .before .before .before .loop .inv) (c .before .before .wide .result) (omega (arith, c .before .before .wide .ensures, c .before .before .before .shared-slice-known2 .given (c .before .before .before .before .before .loop .k))) (c .before .before .before .before .loop-test .taken))
+put-requires c κs = let p2 = c .before .before in let p3 = p2 .before in let p4 = p3 .before in let p5 = p4 .before in let p8 = p5 .before .before .before in (omega (arith, p2 .wide .ensures, p3 .shared-slice-known2 .given (p5 .loop .k)), next-room (p8 .pre .0) (p8 .pre .1) (p5 .loop .inv) (p2 .wide .result) (omega (arith, p2 .wide .ensures, p3 .shared-slice-known2 .given (p5 .loop .k))) (p4 .loop-test .taken))
 
 add-k : tie.Need-add-k Inv-loop μ-loop
 add-k c = search needs
@@ -35,19 +35,19 @@ loop-less : tie.Need-loop-less Inv-loop μ-loop
 loop-less c = search needs
 
 loop-again : tie.Need-loop-again Inv-loop μ-loop
-loop-again c = rest-on (c .before .before .before .before .before .before .before .before .before .before .before .pre .0) (c .before .before .before .before .before .before .before .before .before .before .before .pre .1) (c .before .before .before .before .before .before .before .before .loop .inv) (c .before .before .before .before .before .wide .ensures) (omega (arith, c .before .before .before .before .before .wide .ensures, c .before .before .before .before .before .before .shared-slice-known2 .given (c .before .before .before .before .before .before .before .before .loop .k))) (c .before .before .before .before .before .before .before .loop-test .taken) (c .before .before .put .ensures)
+loop-again c = let p2 = c .before .before in let p5 = p2 .before .before .before in let p6 = p5 .before in let p7 = p6 .before in let p8 = p7 .before in let p11 = p8 .before .before .before in rest-on (p11 .pre .0) (p11 .pre .1) (p8 .loop .inv) (p5 .wide .ensures) (omega (arith, p5 .wide .ensures, p6 .shared-slice-known2 .given (p8 .loop .k))) (p7 .loop-test .taken) (p2 .put .ensures)
 
 slice-aggregate-put-bytes : tie.Need-slice-aggregate-put-bytes Inv-loop μ-loop
 slice-aggregate-put-bytes c = search needs
 
 put-bytes-requires : tie.Need-put-bytes-requires Inv-loop μ-loop
-put-bytes-requires c κs = last-room (c .before .before .before .before .before .before .pre .0) (c .before .before .before .before .before .before .pre .1) (c .before .before .before .loop .inv) (c .before .before .loop-test .left)
+put-bytes-requires c κs = let p2 = c .before .before in let p3 = p2 .before in let p6 = p3 .before .before .before in last-room (p6 .pre .0) (p6 .pre .1) (p3 .loop .inv) (p2 .loop-test .left)
 
 same-length : tie.Need-same-length Inv-loop μ-loop
-same-length c = omega (arith, c .before .out2 .given, lining-long (c .before .before .before .before .before .before .before .before .before .pre .0) (c .before .before .before .before .before .before .before .before .before .pre .1) (c .before .before .before .before .before .before .loop .inv))
+same-length c = let p6 = c .before .before .before .before .before .before in let p9 = p6 .before .before .before in omega (arith, c .before .out2 .given, lining-long (p9 .pre .0) (p9 .pre .1) (p6 .loop .inv))
 
 returns : tie.Need-returns Inv-loop μ-loop
-returns c = rest-done (c .before .before .before .before .before .before .before .before .before .pre .0) (c .before .before .before .before .before .before .before .before .before .pre .1) (c .before .before .before .before .before .before .loop .inv) (c .before .before .before .before .before .loop-test .left) (c .before .before .put-bytes .ensures)
+returns c = let p2 = c .before .before in let p5 = p2 .before .before .before in let p6 = p5 .before in let p9 = p6 .before .before .before in rest-done (p9 .pre .0) (p9 .pre .1) (p6 .loop .inv) (p5 .loop-test .left) (p2 .put-bytes .ensures)
 
 pub put-rest-spec : {M : Type 1} → statement M
 put-rest-spec =

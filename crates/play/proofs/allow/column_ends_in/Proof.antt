@@ -12,8 +12,8 @@ wide-requires : tie.Need-wide-requires
 wide-requires c κs = search needs
 
 returns : tie.Need-returns
-returns c =
-    column-none (c .before .before .before .pre .0) (c .before .before .before .args .i) (c .before .wide .result) (c .before .before .before .args .code) (c .before .before .before .pre .1) (c .before .wide .ensures) (c .if1 .taken)
+returns c = let p3 = c .before .before .before in
+    column-none (p3 .pre .0) (p3 .args .i) (c .before .wide .result) (p3 .args .code) (p3 .pre .1) (c .before .wide .ensures) (c .if1 .taken)
 
 mul-first : tie.Need-mul-first
 mul-first c = search needs
@@ -22,16 +22,16 @@ sub-last : tie.Need-sub-last
 sub-last c = search needs
 
 add-last : tie.Need-add-last
-add-last c =
-    omega (arith, c .before .wide .ensures, c .before .before .before .pre .0 .within (c .before .before .before .args .i) (c .before .before .before .pre .1))
+add-last c = let p3 = c .before .before .before in
+    omega (arith, c .before .wide .ensures, p3 .pre .0 .within (p3 .args .i) (p3 .pre .1))
 
 element-copy-out-result : tie.Need-element-copy-out-result
-element-copy-out-result c =
-    omega (arith, c .before .wide .ensures, c .before .before .before .pre .0 .within (c .before .before .before .args .i) (c .before .before .before .pre .1), c .before .before .before .pre .0 .full, c .if1 .left)
+element-copy-out-result c = let p3 = c .before .before .before in
+    omega (arith, c .before .wide .ensures, p3 .pre .0 .within (p3 .args .i) (p3 .pre .1), p3 .pre .0 .full, c .if1 .left)
 
 returns-2 : tie.Need-returns-2
-returns-2 c =
-    column-some (c .before .before .before .before .pre .0) (c .before .before .before .before .args .i) (c .before .before .wide .result) (c .before .before .before .before .args .code) (c .before .before .before .before .pre .1) (c .before .before .wide .ensures) (c .before .if1 .left)
+returns-2 c = let p2 = c .before .before in let p4 = p2 .before .before in
+    column-some (p4 .pre .0) (p4 .args .i) (p2 .wide .result) (p4 .args .code) (p4 .pre .1) (p2 .wide .ensures) (c .before .if1 .left)
 
 pub column-ends-in-spec : {M : Type 1} → statement M
 column-ends-in-spec =

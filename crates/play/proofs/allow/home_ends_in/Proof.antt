@@ -18,20 +18,20 @@ wide-requires : tie.Need-wide-requires
 wide-requires c κs = search needs
 
 element-copy-out-count : tie.Need-element-copy-out-count
-element-copy-out-count c =
-    omega (arith, c .wide .ensures, c .before .number .ensures, suit-below (c .before .before .args .suit), c .before .before .pre .four)
+element-copy-out-count c = let p2 = c .before .before in
+    omega (arith, c .wide .ensures, c .before .number .ensures, suit-below (p2 .args .suit), p2 .pre .four)
 
 returns : tie.Need-returns
-returns c =
-    pile-none (suitNumber (c .before .before .before .before .args .suit)) (getD (c .before .before .before .before .args .foundation .now) (suitNumber (c .before .before .before .before .args .suit)) 0) (c .before .before .before .before .args .code) (sym (ap (λ (k : ℕ). getD (c .before .before .before .before .args .foundation .now) k 0) (c .before .before .wide .ensures ∙ c .before .before .before .number .ensures)) ∙ c .if1 .taken)
+returns c = let p2 = c .before .before in let p3 = p2 .before in let p4 = p3 .before in
+    pile-none (suitNumber (p4 .args .suit)) (getD (p4 .args .foundation .now) (suitNumber (p4 .args .suit)) 0) (p4 .args .code) (sym (ap (λ (k : ℕ). getD (p4 .args .foundation .now) k 0) (p2 .wide .ensures ∙ p3 .number .ensures)) ∙ c .if1 .taken)
 
 mul-high : tie.Need-mul-high
-mul-high c =
-    omega (arith, c .before .before .before .before .pre .within (c .before .before .wide .result) (omega (arith, c .before .before .wide .ensures, c .before .before .before .number .ensures, suit-below (c .before .before .before .before .args .suit))))
+mul-high c = let p2 = c .before .before in let p3 = p2 .before in let p4 = p3 .before in
+    omega (arith, p4 .pre .within (p2 .wide .result) (omega (arith, p2 .wide .ensures, p3 .number .ensures, suit-below (p4 .args .suit))))
 
 add-result : tie.Need-add-result
-add-result c =
-    omega (arith, c .before .before .before .before .pre .within (c .before .before .wide .result) (omega (arith, c .before .before .wide .ensures, c .before .before .before .number .ensures, suit-below (c .before .before .before .before .args .suit))), c .before .before .before .number .ensures, suit-below (c .before .before .before .before .args .suit))
+add-result c = let p2 = c .before .before in let p3 = p2 .before in let p4 = p3 .before in
+    omega (arith, p4 .pre .within (p2 .wide .result) (omega (arith, p2 .wide .ensures, p3 .number .ensures, suit-below (p4 .args .suit))), p3 .number .ensures, suit-below (p4 .args .suit))
 
 returns-2 : tie.Need-returns-2
 returns-2 c =

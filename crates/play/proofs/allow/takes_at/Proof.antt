@@ -4,7 +4,7 @@ use mathlib.Core.Bool.{true}
 use Prim.Native.Nat.{ℕ}
 use native.Mathlib.Omega.{arith}
 use borrow.Author.Tests.{ltb-true}
-use Rattle.card.specs.Answer.{given}
+use Rattle.base.specs.Answer.{given}
 use Rattle.card.specs.Card.{isCard, codeOf}
 use Rattle.board.specs.Record.{shown}
 use Rattle.play.proofs.Ending.{shown-takes-column, shown-takes-home, shown-takes-cell}
@@ -21,63 +21,63 @@ enum-known-m : tie.Need-enum-known-m
 enum-known-m c = search needs
 
 code-of-requires : tie.Need-code-of-requires
-code-of-requires c κs =
-    said-value _ (subst (λ (m : Move). sayable m ≡ true) (c .before .before .before .before .m .given .1) (c .before .before .before .before .before .before .pre .1))
+code-of-requires c κs = let p4 = c .before .before .before .before in let p6 = p4 .before .before in
+    said-value _ (subst (λ (m : Move). sayable m ≡ true) (p4 .m .given .1) (p6 .pre .1))
 
 fit-at-requires : tie.Need-fit-at-requires
-fit-at-requires c κs =
-    (c .before .before .before .before .before .before .before .pre .0 .inColumns, (ltb-true _ 8 (said-to _ (subst (λ (m : Move). sayable m ≡ true) (c .before .before .before .before .before .m .given .1) (c .before .before .before .before .before .before .before .pre .1))), (subst (λ (x : ℕ). isCard x ≡ true) (sym (c .code-of .ensures)) (code-is-card _ (said-value _ (subst (λ (m : Move). sayable m ≡ true) (c .before .before .before .before .before .m .given .1) (c .before .before .before .before .before .before .before .pre .1)))))))
+fit-at-requires c κs = let p5 = c .before .before .before .before .before in let p7 = p5 .before .before in
+    (p7 .pre .0 .inColumns, (ltb-true _ 8 (said-to _ (subst (λ (m : Move). sayable m ≡ true) (p5 .m .given .1) (p7 .pre .1))), (subst (λ (x : ℕ). isCard x ≡ true) (sym (c .code-of .ensures)) (code-is-card _ (said-value _ (subst (λ (m : Move). sayable m ≡ true) (p5 .m .given .1) (p7 .pre .1)))))))
 
 enum-known-m-2 : tie.Need-enum-known-m-2
 enum-known-m-2 c = search needs
 
 code-of-requires-2 : tie.Need-code-of-requires-2
-code-of-requires-2 c κs =
-    said-value _ (subst (λ (m : Move). sayable m ≡ true) (c .before .before .before .m2 .given .1) (c .before .before .before .before .before .pre .1))
+code-of-requires-2 c κs = let p3 = c .before .before .before in let p5 = p3 .before .before in
+    said-value _ (subst (λ (m : Move). sayable m ≡ true) (p3 .m2 .given .1) (p5 .pre .1))
 
 home-takes-requires : tie.Need-home-takes-requires
-home-takes-requires c κs =
-    (c .before .before .before .before .before .before .pre .0 .inPiles, (subst (λ (x : ℕ). isCard x ≡ true) (sym (c .code-of2 .ensures)) (code-is-card _ (said-value _ (subst (λ (m : Move). sayable m ≡ true) (c .before .before .before .before .m2 .given .1) (c .before .before .before .before .before .before .pre .1))))))
+home-takes-requires c κs = let p4 = c .before .before .before .before in let p6 = p4 .before .before in
+    (p6 .pre .0 .inPiles, (subst (λ (x : ℕ). isCard x ≡ true) (sym (c .code-of2 .ensures)) (code-is-card _ (said-value _ (subst (λ (m : Move). sayable m ≡ true) (p4 .m2 .given .1) (p6 .pre .1))))))
 
 enum-known-m-3 : tie.Need-enum-known-m-3
 enum-known-m-3 c = search needs
 
 element-copy-out-result : tie.Need-element-copy-out-result
-element-copy-out-result c =
-    omega (arith, c .before .before .before .pre .0 .inCells .four, ltb-true (c .before .m3 .given .0 .1 .0) 4 (said-to _ (subst (λ (m : Move). sayable m ≡ true) (c .before .m3 .given .1) (c .before .before .before .pre .1))))
+element-copy-out-result c = let p3 = c .before .before .before in
+    omega (arith, p3 .pre .0 .inCells .four, ltb-true (c .before .m3 .given .0 .1 .0) 4 (said-to _ (subst (λ (m : Move). sayable m ≡ true) (c .before .m3 .given .1) (p3 .pre .1))))
 
 enum-known-m-4 : tie.Need-enum-known-m-4
 enum-known-m-4 c = search needs
 
 code-of-requires-3 : tie.Need-code-of-requires-3
-code-of-requires-3 c κs =
-    said-value _ (subst (λ (m : Move). sayable m ≡ true) (c .before .before .before .before .m4 .given .1) (c .before .before .before .before .before .before .pre .1))
+code-of-requires-3 c κs = let p4 = c .before .before .before .before in let p6 = p4 .before .before in
+    said-value _ (subst (λ (m : Move). sayable m ≡ true) (p4 .m4 .given .1) (p6 .pre .1))
 
 fit-at-requires-2 : tie.Need-fit-at-requires-2
-fit-at-requires-2 c κs =
-    (c .before .before .before .before .before .before .before .pre .0 .inColumns, (ltb-true _ 8 (said-to _ (subst (λ (m : Move). sayable m ≡ true) (c .before .before .before .before .before .m4 .given .1) (c .before .before .before .before .before .before .before .pre .1))), (subst (λ (x : ℕ). isCard x ≡ true) (sym (c .code-of3 .ensures)) (code-is-card _ (said-value _ (subst (λ (m : Move). sayable m ≡ true) (c .before .before .before .before .before .m4 .given .1) (c .before .before .before .before .before .before .before .pre .1)))))))
+fit-at-requires-2 c κs = let p5 = c .before .before .before .before .before in let p7 = p5 .before .before in
+    (p7 .pre .0 .inColumns, (ltb-true _ 8 (said-to _ (subst (λ (m : Move). sayable m ≡ true) (p5 .m4 .given .1) (p7 .pre .1))), (subst (λ (x : ℕ). isCard x ≡ true) (sym (c .code-of3 .ensures)) (code-is-card _ (said-value _ (subst (λ (m : Move). sayable m ≡ true) (p5 .m4 .given .1) (p7 .pre .1)))))))
 
 enum-known-m-5 : tie.Need-enum-known-m-5
 enum-known-m-5 c = search needs
 
 code-of-requires-4 : tie.Need-code-of-requires-4
-code-of-requires-4 c κs =
-    said-value _ (subst (λ (m : Move). sayable m ≡ true) (c .before .before .before .m5 .given .1) (c .before .before .before .before .before .pre .1))
+code-of-requires-4 c κs = let p3 = c .before .before .before in let p5 = p3 .before .before in
+    said-value _ (subst (λ (m : Move). sayable m ≡ true) (p3 .m5 .given .1) (p5 .pre .1))
 
 home-takes-requires-2 : tie.Need-home-takes-requires-2
-home-takes-requires-2 c κs =
-    (c .before .before .before .before .before .before .pre .0 .inPiles, (subst (λ (x : ℕ). isCard x ≡ true) (sym (c .code-of4 .ensures)) (code-is-card _ (said-value _ (subst (λ (m : Move). sayable m ≡ true) (c .before .before .before .before .m5 .given .1) (c .before .before .before .before .before .before .pre .1))))))
+home-takes-requires-2 c κs = let p4 = c .before .before .before .before in let p6 = p4 .before .before in
+    (p6 .pre .0 .inPiles, (subst (λ (x : ℕ). isCard x ≡ true) (sym (c .code-of4 .ensures)) (code-is-card _ (said-value _ (subst (λ (m : Move). sayable m ≡ true) (p4 .m5 .given .1) (p6 .pre .1))))))
 
 enum-known-m-6 : tie.Need-enum-known-m-6
 enum-known-m-6 c = search needs
 
 code-of-requires-5 : tie.Need-code-of-requires-5
-code-of-requires-5 c κs =
-    said-value _ (subst (λ (m : Move). sayable m ≡ true) (c .before .before .before .before .m6 .given .1) (c .before .before .before .before .before .before .pre .1))
+code-of-requires-5 c κs = let p4 = c .before .before .before .before in let p6 = p4 .before .before in
+    said-value _ (subst (λ (m : Move). sayable m ≡ true) (p4 .m6 .given .1) (p6 .pre .1))
 
 fit-at-requires-3 : tie.Need-fit-at-requires-3
-fit-at-requires-3 c κs =
-    (c .before .before .before .before .before .before .before .pre .0 .inColumns, (ltb-true _ 8 (said-to _ (subst (λ (m : Move). sayable m ≡ true) (c .before .before .before .before .before .m6 .given .1) (c .before .before .before .before .before .before .before .pre .1))), (subst (λ (x : ℕ). isCard x ≡ true) (sym (c .code-of5 .ensures)) (code-is-card _ (said-value _ (subst (λ (m : Move). sayable m ≡ true) (c .before .before .before .before .before .m6 .given .1) (c .before .before .before .before .before .before .before .pre .1)))))))
+fit-at-requires-3 c κs = let p5 = c .before .before .before .before .before in let p7 = p5 .before .before in
+    (p7 .pre .0 .inColumns, (ltb-true _ 8 (said-to _ (subst (λ (m : Move). sayable m ≡ true) (p5 .m6 .given .1) (p7 .pre .1))), (subst (λ (x : ℕ). isCard x ≡ true) (sym (c .code-of5 .ensures)) (code-is-card _ (said-value _ (subst (λ (m : Move). sayable m ≡ true) (p5 .m6 .given .1) (p7 .pre .1)))))))
 
 returns : tie.Need-returns
 returns c =

@@ -29,7 +29,7 @@ blocked-by-requires : tie.Need-blocked-by-requires Inv-loop μ-loop
 blocked-by-requires c κs = search needs
 
 add-n : tie.Need-add-n Inv-loop μ-loop
-add-n c = omega (arith, c .blocked-by .ensures, by-most (leb (getD (c .before .before .before .before .before .args .column .now) (c .before .before .before .loop .k) 0 / 16) 3) (c .before .before .before .loop .left - 1))
+add-n c = let p3 = c .before .before .before in let p5 = p3 .before .before in omega (arith, c .blocked-by .ensures, by-most (leb (getD (p5 .args .column .now) (p3 .loop .k) 0 / 16) 3) (p3 .loop .left - 1))
 
 add-k : tie.Need-add-k Inv-loop μ-loop
 add-k c = search needs
@@ -41,7 +41,7 @@ loop-again : tie.Need-loop-again Inv-loop μ-loop
 loop-again c = (search needs, search needs, omega (arith, c .blocked-by .ensures, by-most (leb (getD (c .before .before .before .before .before .args .column .now) (c .before .before .before .loop .k) 0 / 16) 3) (c .before .before .before .loop .left - 1)), omega (arith, c .blocked-by .ensures, blocked-step (c .before .before .before .before .before .args .column .now) (c .before .before .before .loop .k) (c .before .before .before .loop .left) (c .before .before .loop-test .taken) (c .before .before .before .loop .inv .1)))
 
 returns : tie.Need-returns Inv-loop μ-loop
-returns c = omega (arith, c .before .loop .inv .3, blocked-end (c .before .before .before .args .column .now) (c .before .loop .k) (c .loop-test .left))
+returns c = let p3 = c .before .before .before in omega (arith, c .before .loop .inv .3, blocked-end (p3 .args .column .now) (c .before .loop .k) (c .loop-test .left))
 
 pub blocked-in-spec : {M : Type 1} → statement M
 blocked-in-spec =

@@ -2,8 +2,8 @@
 use mathlib.Core.Path.{_≡_, sym, ap, _∙_}
 use Prim.Native.Nat.{ℕ, _-_, _*_, _≤_}
 use native.Mathlib.Omega.{arith}
-use Rattle.card.specs.Words.{sum}
-use Rattle.card.proofs.Sums.{sum-none, sum-next}
+use Rattle.base.specs.Words.{sum}
+use Rattle.base.proofs.Sums.{sum-none, sum-next}
 use Rattle.board.specs.Record.{columnAt}
 use Rattle.score.specs.Features.{blockedIn}
 use Rattle.score.proofs.Blocking.{column-short, column-adds, column-little, blocked-columns}
@@ -30,7 +30,7 @@ wide-requires : tie.Need-wide-requires Inv-loop μ-loop
 wide-requires c κs = search needs
 
 add-end : tie.Need-add-end Inv-loop μ-loop
-add-end c = omega (arith, c .wide .ensures, c .before .before .before .before .before .pre .within (c .before .before .before .loop .i) (c .before .before .loop-test .taken))
+add-end c = let p2 = c .before .before in let p3 = p2 .before in let p5 = p3 .before .before in omega (arith, c .wide .ensures, p5 .pre .within (p3 .loop .i) (p2 .loop-test .taken))
 
 sub-blocked-in : tie.Need-sub-blocked-in Inv-loop μ-loop
 sub-blocked-in c = search needs
@@ -39,13 +39,13 @@ part-blocked-in-start : tie.Need-part-blocked-in-start Inv-loop μ-loop
 part-blocked-in-start c = search needs
 
 part-blocked-in-end : tie.Need-part-blocked-in-end Inv-loop μ-loop
-part-blocked-in-end c = omega (arith, c .wide .ensures, c .before .before .before .before .before .pre .within (c .before .before .before .loop .i) (c .before .before .loop-test .taken), c .before .before .before .before .before .pre .full)
+part-blocked-in-end c = let p2 = c .before .before in let p3 = p2 .before in let p5 = p3 .before .before in omega (arith, c .wide .ensures, p5 .pre .within (p3 .loop .i) (p2 .loop-test .taken), p5 .pre .full)
 
 blocked-in-requires : tie.Need-blocked-in-requires Inv-loop μ-loop
-blocked-in-requires c κs = column-short (c .before .before .before .before .before .before .pre) (c .before .before .before .before .loop .i) (c .before .wide .result) (c .before .before .before .loop-test .taken) (c .before .wide .ensures)
+blocked-in-requires c κs = let p3 = c .before .before .before in let p4 = p3 .before in let p6 = p4 .before .before in column-short (p6 .pre) (p4 .loop .i) (c .before .wide .result) (p3 .loop-test .taken) (c .before .wide .ensures)
 
 add-n : tie.Need-add-n Inv-loop μ-loop
-add-n c = omega (arith, column-adds (c .before .before .before .before .before .before .before .pre) (c .before .before .before .before .before .loop .i) (c .before .before .wide .result) (c .before .before .before .before .loop-test .taken) (c .before .before .wide .ensures) (c .blocked-in .ensures), column-little (c .before .before .before .before .before .before .before .pre) (c .before .before .before .before .before .loop .i) (c .before .before .wide .result) (c .before .before .before .before .loop-test .taken) (c .before .before .wide .ensures))
+add-n c = let p2 = c .before .before in let p4 = p2 .before .before in let p5 = p4 .before in let p7 = p5 .before .before in omega (arith, column-adds (p7 .pre) (p5 .loop .i) (p2 .wide .result) (p4 .loop-test .taken) (p2 .wide .ensures) (c .blocked-in .ensures), column-little (p7 .pre) (p5 .loop .i) (p2 .wide .result) (p4 .loop-test .taken) (p2 .wide .ensures))
 
 add-i : tie.Need-add-i Inv-loop μ-loop
 add-i c = search needs

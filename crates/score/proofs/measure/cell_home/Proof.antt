@@ -11,16 +11,16 @@ element-copy-out-code : tie.Need-element-copy-out-code
 element-copy-out-code c = omega (arith, c .pre .1 .0 .four)
 
 returns : tie.Need-returns
-returns c = cell-none (c .before .before .args .foundation .now) (getD (c .before .before .args .cells .now) (c .before .before .args .i) 0) (c .if1 .taken)
+returns c = let p2 = c .before .before in cell-none (p2 .args .foundation .now) (getD (p2 .args .cells .now) (p2 .args .i) 0) (c .if1 .taken)
 
 home-takes-requires : tie.Need-home-takes-requires
-home-takes-requires c κs = (c .before .before .pre .0, cell-is-card (getD (c .before .before .args .cells .now) (c .before .before .args .i) 0) (c .before .before .pre .1 .0 .codes (c .before .before .args .i) (c .before .before .pre .1 .1)) (c .if1 .left))
+home-takes-requires c κs = let p2 = c .before .before in (p2 .pre .0, cell-is-card (getD (p2 .args .cells .now) (p2 .args .i) 0) (p2 .pre .1 .0 .codes (p2 .args .i) (p2 .pre .1 .1)) (c .if1 .left))
 
 returns-2 : tie.Need-returns-2
-returns-2 c = one-home (c .before .home-takes .ensures ∙ cell-last (c .before .before .before .before .args .foundation .now) (getD (c .before .before .before .before .args .cells .now) (c .before .before .before .before .args .i) 0) (c .before .before .if1 .left)) (c .if2 .taken)
+returns-2 c = let p2 = c .before .before in let p4 = p2 .before .before in one-home (c .before .home-takes .ensures ∙ cell-last (p4 .args .foundation .now) (getD (p4 .args .cells .now) (p4 .args .i) 0) (p2 .if1 .left)) (c .if2 .taken)
 
 returns-3 : tie.Need-returns-3
-returns-3 c = no-home (c .before .home-takes .ensures ∙ cell-last (c .before .before .before .before .args .foundation .now) (getD (c .before .before .before .before .args .cells .now) (c .before .before .before .before .args .i) 0) (c .before .before .if1 .left)) (c .if2 .left)
+returns-3 c = let p2 = c .before .before in let p4 = p2 .before .before in no-home (c .before .home-takes .ensures ∙ cell-last (p4 .args .foundation .now) (getD (p4 .args .cells .now) (p4 .args .i) 0) (p2 .if1 .left)) (c .if2 .left)
 
 pub cell-home-spec : {M : Type 1} → statement M
 cell-home-spec =

@@ -5,8 +5,8 @@ use mathlib.Core.List.{[], _∷_}
 use Prim.Native.Nat.{ℕ, _-_, _≤_}
 use lib.ListN.{getD}
 use native.Mathlib.Omega.{arith}
-use Rattle.card.specs.Words.{sum}
-use Rattle.card.proofs.Sums.{sum-none, sum-next}
+use Rattle.base.specs.Words.{sum}
+use Rattle.base.proofs.Sums.{sum-none, sum-next}
 use Rattle.board.specs.Table.{held}
 use Rattle.score.specs.Features.{lastGoesHome}
 use Rattle.score.proofs.Blocking.{by-most}
@@ -24,10 +24,10 @@ loop-holds : tie.Need-loop-holds Inv-loop μ-loop
 loop-holds c = (search needs, search needs, sym (sum-none _))
 
 cell-home-requires : tie.Need-cell-home-requires Inv-loop μ-loop
-cell-home-requires c κs = (c .before .before .pre .0, (c .before .before .pre .1, omega (arith, c .loop-test .taken)))
+cell-home-requires c κs = let p2 = c .before .before in (p2 .pre .0, (p2 .pre .1, omega (arith, c .loop-test .taken)))
 
 add-n : tie.Need-add-n Inv-loop μ-loop
-add-n c = omega (arith, c .cell-home .ensures, by-most (lastGoesHome (c .before .before .before .args .foundation .now) (held (getD (c .before .before .before .args .cells .now) (c .before .before .loop .i) 0 ∷ []))) 1)
+add-n c = let p2 = c .before .before in let p3 = p2 .before in omega (arith, c .cell-home .ensures, by-most (lastGoesHome (p3 .args .foundation .now) (held (getD (p3 .args .cells .now) (p2 .loop .i) 0 ∷ []))) 1)
 
 add-i : tie.Need-add-i Inv-loop μ-loop
 add-i c = search needs

@@ -3,8 +3,8 @@ use mathlib.Core.Path.{_≡_, sym, ap, _∙_}
 use mathlib.Core.Bool.{cond}
 use Prim.Native.Nat.{ℕ, _-_, _≤_}
 use native.Mathlib.Omega.{arith}
-use Rattle.card.specs.Words.{sum}
-use Rattle.card.proofs.Sums.{sum-none, sum-next}
+use Rattle.base.specs.Words.{sum}
+use Rattle.base.proofs.Sums.{sum-none, sum-next}
 use Rattle.board.specs.Record.{columnAt}
 use Rattle.score.specs.Features.{lastGoesHome}
 use Rattle.score.proofs.Blocking.{by-most}
@@ -22,10 +22,10 @@ loop-holds : tie.Need-loop-holds Inv-loop μ-loop
 loop-holds c = (search needs, search needs, sym (sum-none _))
 
 column-home-requires : tie.Need-column-home-requires Inv-loop μ-loop
-column-home-requires c κs = (c .before .before .pre .0, (c .before .before .pre .1, c .loop-test .taken))
+column-home-requires c κs = let p2 = c .before .before in (p2 .pre .0, (p2 .pre .1, c .loop-test .taken))
 
 add-n : tie.Need-add-n Inv-loop μ-loop
-add-n c = omega (arith, c .column-home .ensures, by-most (lastGoesHome (c .before .before .before .args .foundation .now) (columnAt (c .before .before .before .args .counts .now) (c .before .before .before .args .tableau .now) (c .before .before .loop .i))) 1)
+add-n c = let p2 = c .before .before in let p3 = p2 .before in omega (arith, c .column-home .ensures, by-most (lastGoesHome (p3 .args .foundation .now) (columnAt (p3 .args .counts .now) (p3 .args .tableau .now) (p2 .loop .i))) 1)
 
 add-i : tie.Need-add-i Inv-loop μ-loop
 add-i c = search needs

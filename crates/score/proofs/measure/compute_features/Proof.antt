@@ -3,6 +3,7 @@ use Rattle.score.proofs.Answering.{features-are}
 use borrow.Author.Needs.{needs}
 use Rattle.score.proofs.measure.compute_features.Statement.{statement}
 use Rattle.score.proofs.measure.compute_features.Tie as tie
+use Rattle.board.specs.Record.{laid}
 
 total-at-requires : tie.Need-total-at-requires
 total-at-requires c κs = search needs
@@ -26,7 +27,7 @@ longest-run-length-requires : tie.Need-longest-run-length-requires
 longest-run-length-requires c κs = search needs
 
 returns : tie.Need-returns
-returns c = features-are (record { cells = c .before .before .before .before .before .before .before .before .args .cells .now; foundation = c .before .before .before .before .before .before .before .before .args .foundation .now; counts = c .before .before .before .before .before .before .before .before .args .counts .now; tableau = c .before .before .before .before .before .before .before .before .args .tableau .now }) (c .before .before .before .before .before .before .before .total-at .ensures) (c .before .before .before .before .before .before .immediate-foundation-count .ensures) (c .before .before .before .before .blocked-low-penalty .ensures) (c .before .before .before .foundation-imbalance .ensures) (c .before .before .free-cells-used .ensures) (c .before .empty-columns-at .ensures) (c .longest-run-length .ensures)
+returns c = let p2 = c .before .before in let p3 = p2 .before in let p4 = p3 .before in let p6 = p4 .before .before in let p7 = p6 .before in let p8 = p7 .before in features-are (laid (p8 .args .cells .now) (p8 .args .foundation .now) (p8 .args .counts .now) (p8 .args .tableau .now)) (p7 .total-at .ensures) (p6 .immediate-foundation-count .ensures) (p4 .blocked-low-penalty .ensures) (p3 .foundation-imbalance .ensures) (p2 .free-cells-used .ensures) (c .before .empty-columns-at .ensures) (c .longest-run-length .ensures)
 
 pub compute-features-spec : {M : Type 1} → statement M
 compute-features-spec =

@@ -3,6 +3,7 @@ use native.Mathlib.Omega.{arith}
 use Rattle.score.proofs.Bounds.{immediate-is, immediate-most}
 use Rattle.score.proofs.measure.immediate_foundation_count.Statement.{statement}
 use Rattle.score.proofs.measure.immediate_foundation_count.Tie as tie
+use Rattle.board.specs.Record.{laid}
 
 columns-home-requires : tie.Need-columns-home-requires
 columns-home-requires c κs = (c .pre .inPiles, c .pre .inColumns)
@@ -11,10 +12,10 @@ cells-home-requires : tie.Need-cells-home-requires
 cells-home-requires c κs = (c .before .pre .inPiles, c .before .pre .inCells)
 
 add-result : tie.Need-add-result
-add-result c = omega (arith, immediate-is (record { cells = c .before .before .args .cells .now; foundation = c .before .before .args .foundation .now; counts = c .before .before .args .counts .now; tableau = c .before .before .args .tableau .now }) (c .before .columns-home .ensures) (c .cells-home .ensures), immediate-most (record { cells = c .before .before .args .cells .now; foundation = c .before .before .args .foundation .now; counts = c .before .before .args .counts .now; tableau = c .before .before .args .tableau .now }) (c .before .before .pre))
+add-result c = let p2 = c .before .before in omega (arith, immediate-is (laid (p2 .args .cells .now) (p2 .args .foundation .now) (p2 .args .counts .now) (p2 .args .tableau .now)) (c .before .columns-home .ensures) (c .cells-home .ensures), immediate-most (laid (p2 .args .cells .now) (p2 .args .foundation .now) (p2 .args .counts .now) (p2 .args .tableau .now)) (p2 .pre))
 
 returns : tie.Need-returns
-returns c = immediate-is (record { cells = c .before .before .args .cells .now; foundation = c .before .before .args .foundation .now; counts = c .before .before .args .counts .now; tableau = c .before .before .args .tableau .now }) (c .before .columns-home .ensures) (c .cells-home .ensures)
+returns c = let p2 = c .before .before in immediate-is (laid (p2 .args .cells .now) (p2 .args .foundation .now) (p2 .args .counts .now) (p2 .args .tableau .now)) (c .before .columns-home .ensures) (c .cells-home .ensures)
 
 pub immediate-foundation-count-spec : {M : Type 1} → statement M
 immediate-foundation-count-spec =

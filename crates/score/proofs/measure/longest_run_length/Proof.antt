@@ -3,9 +3,9 @@ use mathlib.Core.Path.{_≡_, refl, sym, ap, _∙_}
 use mathlib.Core.List.{[]}
 use Prim.Native.Nat.{ℕ, _-_, _≤_}
 use native.Mathlib.Omega.{arith}
-use Rattle.card.proofs.Words.{getD-listed}
+use Rattle.base.proofs.Words.{getD-listed}
 use Rattle.board.specs.Record.{columnAt}
-use Rattle.rules.specs.Run.{runLength}
+use Rattle.runs.specs.Run.{runLength}
 use Rattle.score.specs.Features.{greatest, longestRun}
 use Rattle.score.proofs.Extremes.{greatest-next, greatest-same}
 use borrow.Author.Needs.{needs}

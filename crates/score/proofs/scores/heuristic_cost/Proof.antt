@@ -16,7 +16,7 @@ heuristic-takes-requires : tie.Need-heuristic-takes-requires
 heuristic-takes-requires c κs = search needs
 
 signed-requires : tie.Need-signed-requires
-signed-requires c κs = (omega (arith, c .before .heuristic-adds .ensures, heuristic-adds-most (c .before .before .args .f) (c .before .before .pre)), omega (arith, c .heuristic-takes .ensures, heuristic-takes-most (c .before .before .args .f) (c .before .before .pre)))
+signed-requires c κs = let p2 = c .before .before in (omega (arith, c .before .heuristic-adds .ensures, heuristic-adds-most (p2 .args .f) (p2 .pre)), omega (arith, c .heuristic-takes .ensures, heuristic-takes-most (p2 .args .f) (p2 .pre)))
 
 returns : tie.Need-returns
 unfolding heuristic

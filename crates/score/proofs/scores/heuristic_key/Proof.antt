@@ -18,7 +18,7 @@ heuristic-takes-requires : tie.Need-heuristic-takes-requires
 heuristic-takes-requires c κs = search needs
 
 sub-result : tie.Need-sub-result
-sub-result c = omega (arith, c .heuristic-takes .ensures, heuristic-takes-most (c .before .before .args .f) (c .before .before .pre))
+sub-result c = let p2 = c .before .before in omega (arith, c .heuristic-takes .ensures, heuristic-takes-most (p2 .args .f) (p2 .pre))
 
 returns : tie.Need-returns
 unfolding heuristicKey

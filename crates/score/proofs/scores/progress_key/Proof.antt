@@ -18,7 +18,7 @@ progress-takes-requires : tie.Need-progress-takes-requires
 progress-takes-requires c κs = search needs
 
 sub-result : tie.Need-sub-result
-sub-result c = omega (arith, c .progress-takes .ensures, progress-takes-most (c .before .before .args .f) (c .before .before .pre))
+sub-result c = let p2 = c .before .before in omega (arith, c .progress-takes .ensures, progress-takes-most (p2 .args .f) (p2 .pre))
 
 returns : tie.Need-returns
 unfolding progressKey

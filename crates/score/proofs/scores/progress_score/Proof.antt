@@ -16,7 +16,7 @@ progress-takes-requires : tie.Need-progress-takes-requires
 progress-takes-requires c κs = search needs
 
 signed-requires : tie.Need-signed-requires
-signed-requires c κs = (omega (arith, c .before .progress-adds .ensures, progress-adds-most (c .before .before .args .f) (c .before .before .pre)), omega (arith, c .progress-takes .ensures, progress-takes-most (c .before .before .args .f) (c .before .before .pre)))
+signed-requires c κs = let p2 = c .before .before in (omega (arith, c .before .progress-adds .ensures, progress-adds-most (p2 .args .f) (p2 .pre)), omega (arith, c .progress-takes .ensures, progress-takes-most (p2 .args .f) (p2 .pre)))
 
 returns : tie.Need-returns
 unfolding progress

@@ -2,7 +2,7 @@
 use native.Mathlib.Omega.{arith}
 use Rattle.score.specs.Token.{parts, tokenOf}
 use Rattle.score.proofs.Digits.{token-long}
-use Rattle.score.proofs.Putting.{reach-start, reach-next}
+use Rattle.base.proofs.Putting.{reach-start, reach-next}
 use borrow.Author.Needs.{needs}
 use Rattle.score.proofs.token.token_at.Statement.{statement}
 use Rattle.score.proofs.token.token_at.Tie as tie

@@ -8,19 +8,19 @@ use Rattle.solver.proofs.finish.best_line.Statement.{statement}
 use Rattle.solver.proofs.finish.best_line.Tie as tie
 
 with-line-requires : tie.Need-with-line-requires
-with-line-requires c κs = (c .before .before .before .before .before .before .pre .0, (c .before .before .before .before .before .before .pre .1 .0, (c .before .before .before .before .before .before .pre .1 .1 .0, c .before .before .before .before .before .before .pre .1 .1 .1)))
+with-line-requires c κs = let p6 = c .before .before .before .before .before .before in (p6 .pre .0, (p6 .pre .1 .0, (p6 .pre .1 .1 .0, p6 .pre .1 .1 .1)))
 
 same-length : tie.Need-same-length
 same-length c = search needs
 
 returns : tie.Need-returns
-returns c = gives-line (c .before .before .before .before .before .before .before .before .before .args .with) (c .before .before .before .before .before .before .before .before .before .args .without) (lineTo (shown (c .before .before .before .before .before .before .before .before .before .args .root)) (c .before .before .before .before .before .before .before .before .before .args .nodes .now) (c .before .before .before .before .before .before .before .before .before .args .c .best)) (c .before .before .before .before .before .before .before .before .before .args .c .pops) (best-comes (c .before .before .before .before .before .before .before .before .before .args .partial) (c .before .before .before .before .before .before .before .before .before .args .c .best) (c .before .before .before .before .before .before .if1 .taken) (c .before .before .before .before .if2 .taken)) (c .before .before .with-line .ensures)
+returns c = let p2 = c .before .before in let p4 = p2 .before .before in let p6 = p4 .before .before in let p9 = p6 .before .before .before in gives-line (p9 .args .with) (p9 .args .without) (lineTo (shown (p9 .args .root)) (p9 .args .nodes .now) (p9 .args .c .best)) (p9 .args .c .pops) (best-comes (p9 .args .partial) (p9 .args .c .best) (p6 .if1 .taken) (p4 .if2 .taken)) (p2 .with-line .ensures)
 
 returns-2 : tie.Need-returns-2
-returns-2 c = gives-nothing (c .before .before .before .before .before .args .with) (c .before .before .before .before .before .args .without) (lineTo (shown (c .before .before .before .before .before .args .root)) (c .before .before .before .before .before .args .nodes .now) (c .before .before .before .before .before .args .c .best)) (c .before .before .before .before .before .args .c .pops) _ (best-is-root (c .before .before .before .before .before .args .partial) (c .before .before .before .before .before .args .c .best) (c .before .before .if1 .taken) (omega (arith, c .if2 .left)))
+returns-2 c = let p2 = c .before .before in let p5 = p2 .before .before .before in gives-nothing (p5 .args .with) (p5 .args .without) (lineTo (shown (p5 .args .root)) (p5 .args .nodes .now) (p5 .args .c .best)) (p5 .args .c .pops) _ (best-is-root (p5 .args .partial) (p5 .args .c .best) (p2 .if1 .taken) (omega (arith, c .if2 .left)))
 
 returns-3 : tie.Need-returns-3
-returns-3 c = gives-nothing (c .before .before .before .args .with) (c .before .before .before .args .without) (lineTo (shown (c .before .before .before .args .root)) (c .before .before .before .args .nodes .now) (c .before .before .before .args .c .best)) (c .before .before .before .args .c .pops) _ (best-unasked (c .before .before .before .args .partial) (c .before .before .before .args .c .best) (c .if1 .left))
+returns-3 c = let p3 = c .before .before .before in gives-nothing (p3 .args .with) (p3 .args .without) (lineTo (shown (p3 .args .root)) (p3 .args .nodes .now) (p3 .args .c .best)) (p3 .args .c .pops) _ (best-unasked (p3 .args .partial) (p3 .args .c .best) (c .if1 .left))
 
 pub best-line-spec : {M : Type 1} → statement M
 best-line-spec = tie.close (tie.spec with-line-requires same-length returns returns-2 returns-3)

@@ -1,5 +1,5 @@
 -- What `first_slot` leaves to be shown: an empty table has an entry free for any key.
-use Rattle.solver.proofs.Choices.{empty-table, never-there, never-full}
+use Rattle.children.proofs.Choices.{empty-table, never-there, never-full}
 use borrow.Author.Needs.{needs}
 use Rattle.solver.proofs.run.first_slot.Statement.{statement}
 use Rattle.solver.proofs.run.first_slot.Tie as tie
@@ -17,13 +17,13 @@ enum-told : tie.Need-enum-told
 enum-told c = search needs
 
 returns : tie.Need-returns
-returns c = absurd (never-there (c .before .before .before .before .before .before .pre) (c .before .before .before .find .ensures) _ (c .before .i .given .1))
+returns c = let p3 = c .before .before .before in let p6 = p3 .before .before .before in absurd (never-there (p6 .pre) (p3 .find .ensures) _ (c .before .i .given .1))
 
 returns-2 : tie.Need-returns-2
-returns-2 c = c .before .before .before .find .ensures .vacant _ (c .before .i2 .given .1)
+returns-2 c = let p3 = c .before .before .before in p3 .find .ensures .vacant _ (c .before .i2 .given .1)
 
 returns-3 : tie.Need-returns-3
-returns-3 c = absurd (never-full (c .before .before .before .before .before .pre) (c .before .before .find .ensures) (c .enum-told .given .1))
+returns-3 c = let p2 = c .before .before in let p5 = p2 .before .before .before in absurd (never-full (p5 .pre) (p2 .find .ensures) (c .enum-told .given .1))
 
 pub first-slot-spec : {M : Type 1} → statement M
 first-slot-spec =

@@ -5,15 +5,16 @@ use Rattle.solver.proofs.Going.{Going, going-start, going-pops, going-l
 use borrow.Author.Needs.{needs}
 use Rattle.solver.proofs.run.go.Statement.{statement}
 use Rattle.solver.proofs.run.go.Tie as tie
+use Rattle.memory.specs.Memory.{lent}
 
 abbrev Inv-loop : tie.InvT-loop
-Inv-loop root budget room nodes₀ heap₀ keys₀ costs₀ counts₀ left₀ nodes heap keys costs counts left = Going root room budget (record { nodes = nodes₀; heap = heap₀; keys = keys₀; costs = costs₀ }) counts₀ (record { nodes = nodes; heap = heap; keys = keys; costs = costs }) counts left
+Inv-loop root budget room nodes₀ heap₀ keys₀ costs₀ counts₀ left₀ nodes heap keys costs counts left = Going root room budget (lent nodes₀ heap₀ keys₀ costs₀) counts₀ (lent nodes heap keys costs) counts left
 
 abbrev μ-loop : tie.MeasureT-loop
 μ-loop root budget room nodes₀ heap₀ keys₀ costs₀ counts₀ left₀ nodes heap keys costs counts left = left
 
 loop-holds : tie.Need-loop-holds Inv-loop μ-loop
-loop-holds c = going-start _ (c .before .before .before .before .pre .1 .0) (c .before .before .before .before .pre .1 .1 .0)
+loop-holds c = let p4 = c .before .before .before .before in going-start _ (p4 .pre .1 .0) (p4 .pre .1 .1 .0)
 
 same-length : tie.Need-same-length Inv-loop μ-loop
 same-length c = c .before .before .before .loop .inv .size .nodes
@@ -28,10 +29,10 @@ same-length-4 : tie.Need-same-length-4 Inv-loop μ-loop
 same-length-4 c = c .before .before .before .loop .inv .size .costs
 
 returns : tie.Need-returns Inv-loop μ-loop
-returns c = going-limit (c .before .before .before .loop .inv) (c .if2 .taken) (c .before .if1 .taken)
+returns c = let p3 = c .before .before .before in going-limit (p3 .loop .inv) (c .if2 .taken) (c .before .if1 .taken)
 
 advance-requires : tie.Need-advance-requires Inv-loop μ-loop
-advance-requires c κs = (c .before .before .before .before .before .before .before .before .before .before .before .before .pre .0, (c .before .before .before .before .before .before .before .loop .inv .machine, (c .before .before .before .before .before .if1 .taken, omega (arith, going-pops (c .before .before .before .before .before .before .before .loop .inv), c .before .before .before .before .before .before .before .before .before .before .before .before .pre .1 .1 .1))))
+advance-requires c κs = let p5 = c .before .before .before .before .before in let p7 = p5 .before .before in let p12 = p7 .before .before .before .before .before in (p12 .pre .0, (p7 .loop .inv .machine, (p5 .if1 .taken, omega (arith, going-pops (p7 .loop .inv), p12 .pre .1 .1 .1))))
 
 enum-known-a : tie.Need-enum-known-a Inv-loop μ-loop
 enum-known-a c = search needs
@@ -40,28 +41,28 @@ ended-requires : tie.Need-ended-requires Inv-loop μ-loop
 ended-requires c κs = search needs
 
 same-length-5 : tie.Need-same-length-5 Inv-loop μ-loop
-same-length-5 c = c .before .before .before .before .before .before .before .before .before .before .advance .kept .1 .1 .1 .0 ∙ c .before .before .before .before .before .before .before .before .before .before .before .before .before .before .before .before .before .before .loop .inv .size .nodes
+same-length-5 c = let p10 = c .before .before .before .before .before .before .before .before .before .before in let p18 = p10 .before .before .before .before .before .before .before .before in p10 .advance .kept .1 .1 .1 .0 ∙ p18 .loop .inv .size .nodes
 
 same-length-6 : tie.Need-same-length-6 Inv-loop μ-loop
-same-length-6 c = c .before .before .before .before .before .before .before .before .before .before .advance .kept .1 .1 .1 .1 .0 ∙ c .before .before .before .before .before .before .before .before .before .before .before .before .before .before .before .before .before .before .loop .inv .size .heap
+same-length-6 c = let p10 = c .before .before .before .before .before .before .before .before .before .before in let p18 = p10 .before .before .before .before .before .before .before .before in p10 .advance .kept .1 .1 .1 .1 .0 ∙ p18 .loop .inv .size .heap
 
 same-length-7 : tie.Need-same-length-7 Inv-loop μ-loop
-same-length-7 c = c .before .before .before .before .before .before .before .before .before .before .advance .kept .1 .1 .1 .1 .1 .0 ∙ c .before .before .before .before .before .before .before .before .before .before .before .before .before .before .before .before .before .before .loop .inv .size .keys
+same-length-7 c = let p10 = c .before .before .before .before .before .before .before .before .before .before in let p18 = p10 .before .before .before .before .before .before .before .before in p10 .advance .kept .1 .1 .1 .1 .1 .0 ∙ p18 .loop .inv .size .keys
 
 same-length-8 : tie.Need-same-length-8 Inv-loop μ-loop
-same-length-8 c = c .before .before .before .before .before .before .before .before .before .before .advance .kept .1 .1 .1 .1 .1 .1 .0 ∙ c .before .before .before .before .before .before .before .before .before .before .before .before .before .before .before .before .before .before .loop .inv .size .costs
+same-length-8 c = let p10 = c .before .before .before .before .before .before .before .before .before .before in let p18 = p10 .before .before .before .before .before .before .before .before in p10 .advance .kept .1 .1 .1 .1 .1 .1 .0 ∙ p18 .loop .inv .size .costs
 
 returns-2 : tie.Need-returns-2 Inv-loop μ-loop
-returns-2 c = going-over (c .before .before .before .before .before .before .before .before .before .before .before .before .before .before .before .before .before .before .loop .inv) (c .before .before .before .before .before .before .before .before .before .before .before .before .before .before .before .if2 .left) (c .before .before .before .before .before .before .before .before .before .before .advance .ensures) (c .before .match .keys2) (c .ended .ensures)
+returns-2 c = let p10 = c .before .before .before .before .before .before .before .before .before .before in let p15 = p10 .before .before .before .before .before in let p18 = p15 .before .before .before in going-over (p18 .loop .inv) (p15 .if2 .left) (p10 .advance .ensures) (c .before .match .keys2) (c .ended .ensures)
 
 sub-left : tie.Need-sub-left Inv-loop μ-loop
-sub-left c = omega (arith, c .before .before .before .before .before .before .before .before .before .before .before .before .before .before .before .before .if2 .left)
+sub-left c = let p16 = c .before .before .before .before .before .before .before .before .before .before .before .before .before .before .before .before in omega (arith, p16 .if2 .left)
 
 loop-less : tie.Need-loop-less Inv-loop μ-loop
-loop-less c = omega (arith, c .before .before .before .before .before .before .before .before .before .before .before .before .before .before .before .before .if2 .left)
+loop-less c = let p16 = c .before .before .before .before .before .before .before .before .before .before .before .before .before .before .before .before in omega (arith, p16 .if2 .left)
 
 loop-again : tie.Need-loop-again Inv-loop μ-loop
-loop-again c = going-turn (c .before .before .before .before .before .before .before .before .before .before .before .before .before .before .before .before .before .before .before .loop .inv) (c .before .before .before .before .before .before .before .before .before .before .before .before .before .before .before .before .if2 .left) (c .before .before .before .before .before .before .before .before .before .before .before .advance .ensures) (c .before .a .given .1) (record { nodes = c .before .before .before .before .before .before .before .before .before .before .before .advance .kept .1 .1 .1 .0; heap = c .before .before .before .before .before .before .before .before .before .before .before .advance .kept .1 .1 .1 .1 .0; keys = c .before .before .before .before .before .before .before .before .before .before .before .advance .kept .1 .1 .1 .1 .1 .0; costs = c .before .before .before .before .before .before .before .before .before .before .before .advance .kept .1 .1 .1 .1 .1 .1 .0 })
+loop-again c = let p11 = c .before .before .before .before .before .before .before .before .before .before .before in let p16 = p11 .before .before .before .before .before in let p19 = p16 .before .before .before in going-turn (p19 .loop .inv) (p16 .if2 .left) (p11 .advance .ensures) (c .before .a .given .1) (record { nodes = p11 .advance .kept .1 .1 .1 .0; heap = p11 .advance .kept .1 .1 .1 .1 .0; keys = p11 .advance .kept .1 .1 .1 .1 .1 .0; costs = p11 .advance .kept .1 .1 .1 .1 .1 .1 .0 })
 
 same-length-9 : tie.Need-same-length-9 Inv-loop μ-loop
 same-length-9 c = c .before .before .loop .inv .size .nodes

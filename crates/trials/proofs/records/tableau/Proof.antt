@@ -5,12 +5,13 @@ use lib.ListN.{length}
 use borrow.Author.Needs.{needs}
 use Rattle.trials.proofs.records.tableau.Statement.{statement}
 use Rattle.trials.proofs.records.tableau.Tie as tie
+use Rattle.board.specs.Record.{tableauRoom}
 
 abbrev Inv-loop : tie.InvT-loop
-Inv-loop bytes codes₀ p₀ codes p = (p ≤ 416) × (length codes ≡ 416)
+Inv-loop bytes codes₀ p₀ codes p = (p ≤ tableauRoom) × (length codes ≡ tableauRoom)
 
 abbrev μ-loop : tie.MeasureT-loop
-μ-loop bytes codes₀ p₀ codes p = 416 - p
+μ-loop bytes codes₀ p₀ codes p = tableauRoom - p
 
 loop-holds : tie.Need-loop-holds Inv-loop μ-loop
 loop-holds c = search needs

@@ -1,2 +1,0 @@
--- Laws for the crates above.
-pub mod Clearing

@@ -1,0 +1,2 @@
+-- What is asked inside the search.
+pub mod Inner

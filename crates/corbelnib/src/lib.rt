@@ -1,0 +1,264 @@
+// The judge for a controller program in C: numbers and lent memory alone. A board is 432 bytes (src/wire.rt); 0 is done, any
+// other number SCOPE.md's. A refusal changes nothing lent, but for 30 in a replay.
+ghost use mathlib.Core.Path.{_≡_};
+ghost use Rattle.board.specs.Record.{examined};
+ghost use Rattle.solver.specs.Capacity.{capacityOf};
+ghost use Rattle.corbelnib.specs.Crossing.{left, told, asked};
+ghost use Rattle.corbelnib.specs.Boards.{readLeft, dealLeft, moveLeft, replayLeft, chainLeft};
+ghost use Rattle.corbelnib.specs.Lists.{candidatesLeft, movesLeft, tokenLeft};
+ghost use Rattle.corbelnib.specs.Values.{signatureLeft, priorityLeft, scoresLeft, featuresLeft};
+ghost use Rattle.corbelnib.specs.Judged.{leaves, judgeLeft};
+use board::Examined;
+use generate::Way;
+use score::FeaturesAnswer;
+
+mod hand;
+mod tell;
+mod wire;
+
+// A kind of move asked for by its number.
+enum WayAnswer {
+    Is(Way),
+    NoWay,
+}
+
+// 12 to 15, or 0 for a well-formed board.
+#[no_mangle]
+pub extern "C" fn corbelnib_examine(board: &[u8]) -> u8
+    ensures { λ r. ⌜ r ≡ told (asked (now (board .entry)) examined) ⌝ }
+{
+    if board.len() != wire::BYTES {
+        return 12;
+    }
+    tell::verdict(board::examine(wire::board_in(board)))
+}
+
+// A board from its image: 10 to 15, 21.
+#[no_mangle]
+pub extern "C" fn corbelnib_read(image: &[u8], board: &mut [u8]) -> u8
+    ensures { λ r. ⌜ left r (now (board .exit)) ≡ readLeft (now (image .entry)) (now (board .entry)) ⌝ }
+{
+    let read = intake::image::read(image);
+    let said = read.said;
+    let b = read.board;
+    hand::board(said, b, board)
+}
+
+// A board from a deck: 16, 13, 14, 21.
+#[no_mangle]
+pub extern "C" fn corbelnib_deal(deck: &[u8], board: &mut [u8]) -> u8
+    ensures { λ r. ⌜ left r (now (board .exit)) ≡ dealLeft (now (deck .entry)) (now (board .entry)) ⌝ }
+{
+    let dealt = intake::deal::deal(deck);
+    let said = dealt.said;
+    let b = dealt.board;
+    hand::board(said, b, board)
+}
+
+// The board after one move: 12 to 15, 30, 21.
+#[no_mangle]
+pub extern "C" fn corbelnib_move(board: &[u8], bytes: &[u8], after: &mut [u8]) -> u8
+    ensures { λ r. ⌜ left r (now (after .exit)) ≡ moveLeft (now (board .entry)) (now (bytes .entry)) (now (after .entry)) ⌝ }
+{
+    if board.len() != wire::BYTES {
+        return 12;
+    }
+    let moved = replay::apply_record(wire::board_in(board), bytes);
+    let said = moved.said;
+    let b = moved.board;
+    hand::board(said, b, after)
+}
+
+// The board after a list of moves, and their number: 12 to 15, 31, 21; 30 tells the place of the bad move and hands back the
+// board before it.
+#[no_mangle]
+pub extern "C" fn corbelnib_replay(
+    board: &[u8],
+    list: &[u8],
+    after: &mut [u8],
+    played: &mut usize,
+) -> u8
+    ensures { λ r. ⌜ left r (now (after .exit), now (played .exit)) ≡ replayLeft (now (board .entry)) (now (list .entry)) (now (after .entry)) (now (played .entry)) ⌝ }
+{
+    if board.len() != wire::BYTES {
+        return 12;
+    }
+    let start = wire::board_in(board);
+    if let Examined::Refused(why) = board::examine(start) {
+        return board::number(why);
+    }
+    if !replay::is_line(list) {
+        return 31;
+    }
+    let replayed = replay::replay_at(start, list);
+    let said = replayed.said;
+    let b = replayed.board;
+    let n = replayed.moves;
+    hand::line(said, b, n, after, played)
+}
+
+// The board after the chain of safe moves, and their number: 12 to 15, 21.
+#[no_mangle]
+pub extern "C" fn corbelnib_chain(board: &[u8], after: &mut [u8], moves: &mut usize) -> u8
+    ensures { λ r. ⌜ left r (now (after .exit), now (moves .exit)) ≡ chainLeft (now (board .entry)) (now (after .entry)) (now (moves .entry)) ⌝ }
+{
+    if board.len() != wire::BYTES {
+        return 12;
+    }
+    let chained = safe::safe_chain(wire::board_in(board));
+    let said = chained.said;
+    let b = chained.board;
+    let n = chained.moves;
+    if let Examined::Refused(why) = said {
+        return board::number(why);
+    }
+    hand::line(said, b, n, after, moves)
+}
+
+// The records of the allowed moves of a kind, and their number: 12 to 15, 30, 21.
+#[no_mangle]
+pub extern "C" fn corbelnib_moves(
+    board: &[u8],
+    kind: u8,
+    records: &mut [u8],
+    count: &mut usize,
+) -> u8
+    ensures { λ r. ⌜ left r (now (records .exit), now (count .exit)) ≡ movesLeft (now (board .entry)) kind (now (records .entry)) (now (count .entry)) ⌝ }
+{
+    if board.len() != wire::BYTES {
+        return 12;
+    }
+    let b = wire::board_in(board);
+    if let Examined::Refused(why) = board::examine(b) {
+        return board::number(why);
+    }
+    let WayAnswer::Is(way) = tell::way_of(kind) else {
+        return 30;
+    };
+    tell::count(generate::find(b, way, records), count)
+}
+
+// The records of the candidates in order, and their number: 12 to 15, 21.
+#[no_mangle]
+pub extern "C" fn corbelnib_candidates(board: &[u8], records: &mut [u8], count: &mut usize) -> u8
+    ensures { λ r. ⌜ left r (now (records .exit), now (count .exit)) ≡ candidatesLeft (now (board .entry)) (now (records .entry)) (now (count .entry)) ⌝ }
+{
+    if board.len() != wire::BYTES {
+        return 12;
+    }
+    tell::count(
+        candidates::candidates_of(wire::board_in(board), records),
+        count,
+    )
+}
+
+// The token's text, and the number of its bytes: 12 to 15, 21.
+#[no_mangle]
+pub extern "C" fn corbelnib_token(board: &[u8], text: &mut [u8], count: &mut usize) -> u8
+    ensures { λ r. ⌜ left r (now (text .exit), now (count .exit)) ≡ tokenLeft (now (board .entry)) (now (text .entry)) (now (count .entry)) ⌝ }
+{
+    if board.len() != wire::BYTES {
+        return 12;
+    }
+    tell::count(score::progress_token(wire::board_in(board), text), count)
+}
+
+// The priority of a move: 12 to 15, 30.
+#[no_mangle]
+pub extern "C" fn corbelnib_priority(board: &[u8], bytes: &[u8], priority: &mut i64) -> u8
+    ensures { λ r. ⌜ left r (now (priority .exit)) ≡ priorityLeft (now (board .entry)) (now (bytes .entry)) (now (priority .entry)) ⌝ }
+{
+    if board.len() != wire::BYTES {
+        return 12;
+    }
+    tell::score(
+        priority::priority_of(wire::board_in(board), bytes),
+        priority,
+    )
+}
+
+// Heuristic and progress score: 12 to 15.
+#[no_mangle]
+pub extern "C" fn corbelnib_scores(board: &[u8], heuristic: &mut i64, progress: &mut i64) -> u8
+    ensures { λ r. ⌜ left r (now (heuristic .exit), now (progress .exit)) ≡ scoresLeft (now (board .entry)) (now (heuristic .entry)) (now (progress .entry)) ⌝ }
+{
+    if board.len() != wire::BYTES {
+        return 12;
+    }
+    let b = wire::board_in(board);
+    tell::score(score::heuristic_of(b), heuristic);
+    tell::score(score::progress_of(b), progress)
+}
+
+// The signature: 12 to 15.
+#[no_mangle]
+pub extern "C" fn corbelnib_signature(board: &[u8], signature: &mut u64) -> u8
+    ensures { λ r. ⌜ left r (now (signature .exit)) ≡ signatureLeft (now (board .entry)) (now (signature .entry)) ⌝ }
+{
+    if board.len() != wire::BYTES {
+        return 12;
+    }
+    tell::signature(signature::signature_of(wire::board_in(board)), signature)
+}
+
+// The seven features: 12 to 15, 21.
+#[no_mangle]
+pub extern "C" fn corbelnib_features(board: &[u8], features: &mut [u64]) -> u8
+    ensures { λ r. ⌜ left r (now (features .exit)) ≡ featuresLeft (now (board .entry)) (now (features .entry)) ⌝ }
+{
+    if board.len() != wire::BYTES {
+        return 12;
+    }
+    match score::features_of(wire::board_in(board)) {
+        FeaturesAnswer::Are(f) => {
+            if features.len() < 7 {
+                return 21;
+            }
+            hand::features(f, features);
+            0
+        }
+        FeaturesAnswer::Refused(why) => board::number(why),
+    }
+}
+
+// How many nodes lent parts of these lengths hold.
+#[no_mangle]
+pub extern "C" fn corbelnib_capacity(nodes: usize, heap: usize, keys: usize, costs: usize) -> usize
+    ensures { λ r. ⌜ r ≡ capacityOf nodes heap keys costs ⌝ }
+{
+    solver::capacity_of(nodes, heap, keys, costs)
+}
+
+// The search: 12 to 15, 20, 21, 22, or the answer's number with its pops and the number of moves in the list.
+#[no_mangle]
+pub extern "C" fn corbelnib_judge(
+    board: &[u8],
+    budget: usize,
+    partial: u8,
+    nodes: &mut [u32],
+    heap: &mut [u64],
+    keys: &mut [u64],
+    costs: &mut [u8],
+    list: &mut [u8],
+    pops: &mut usize,
+    moves: &mut usize,
+) -> u8
+    ensures { λ r. ⌜ leaves r (now (pops .exit)) (now (moves .exit)) (now (nodes .exit)) (now (heap .exit)) (now (keys .exit)) (now (costs .exit)) (now (list .exit)) ≡ judgeLeft (now (nodes .entry)) (now (heap .entry)) (now (keys .entry)) (now (costs .entry)) (now (list .entry)) (now (pops .entry)) (now (moves .entry)) (now (board .entry)) budget partial ⌝ }
+{
+    if board.len() != wire::BYTES {
+        return 12;
+    }
+    let b = wire::board_in(board);
+    let allowed = partial != 0;
+    let judged = solver::solve(b, budget, allowed, nodes, heap, keys, costs, list);
+    let said = judged.said;
+    let p = judged.pops;
+    let m = judged.moves;
+    let number = solver::number(said);
+    if tell::is_answer(number) {
+        *pops = p;
+        *moves = m;
+        return number;
+    }
+    number
+}

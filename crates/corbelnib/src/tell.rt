@@ -1,0 +1,90 @@
+// What an answer is to C: its number, and what it tells behind a pointer; a refusal tells its number alone.
+ghost use mathlib.Core.Path.{_≡_};
+ghost use Rattle.board.specs.Refusal.{examinedTold};
+ghost use Rattle.questions.specs.Told.{countTold};
+ghost use Rattle.score.specs.Asked.{scoreTold};
+ghost use Rattle.signature.specs.Signed.{signatureTold};
+ghost use Rattle.corbelnib.specs.Crossing.{left, told};
+ghost use Rattle.corbelnib.specs.Judged.{isAnswer};
+ghost use Rattle.corbelnib.specs.Lists.{wayAsked, wayTold};
+ghost use Rattle.corbelnib.specs.Values.{valueLeft};
+use crate::WayAnswer;
+use board::Examined;
+use generate::Way;
+use questions::CountAnswer;
+use score::ScoreAnswer;
+use signature::SignatureAnswer;
+
+// 0, or the number of a refusal.
+pub fn verdict(e: Examined) -> u8
+    ensures { λ r. ⌜ r ≡ told (examinedTold e) ⌝ }
+{
+    match e {
+        Examined::WellFormed => 0,
+        Examined::Refused(why) => board::number(why),
+    }
+}
+
+// A count of moves or bytes.
+pub fn count(answer: CountAnswer, to: &mut usize) -> u8
+    ensures { λ r. ⌜ left r (now (to .exit)) ≡ valueLeft (countTold answer) (now (to .entry)) ⌝ }
+{
+    match answer {
+        CountAnswer::Count(n) => {
+            *to = n;
+            0
+        }
+        CountAnswer::Refused(why) => board::number(why),
+    }
+}
+
+// A signed score.
+pub fn score(answer: ScoreAnswer, to: &mut i64) -> u8
+    ensures { λ r. ⌜ left r (now (to .exit)) ≡ valueLeft (scoreTold answer) (now (to .entry)) ⌝ }
+{
+    match answer {
+        ScoreAnswer::Score(n) => {
+            *to = n;
+            0
+        }
+        ScoreAnswer::Refused(why) => board::number(why),
+    }
+}
+
+// A signature.
+pub fn signature(answer: SignatureAnswer, to: &mut u64) -> u8
+    ensures { λ r. ⌜ left r (now (to .exit)) ≡ valueLeft (signatureTold answer) (now (to .entry)) ⌝ }
+{
+    match answer {
+        SignatureAnswer::Signature(n) => {
+            *to = n;
+            0
+        }
+        SignatureAnswer::Refused(why) => board::number(why),
+    }
+}
+
+// 0 to 4 and 23 are answers.
+pub fn is_answer(number: u8) -> bool
+    ensures { λ r. ⌜ r ≡ isAnswer number ⌝ }
+{
+    if number <= 4 {
+        return true;
+    }
+    number == 23
+}
+
+// The kind of move with this number, as in a move record.
+pub fn way_of(kind: u8) -> WayAnswer
+    ensures { λ r. ⌜ wayTold r ≡ wayAsked kind ⌝ }
+{
+    match kind {
+        1 => WayAnswer::Is(Way::ColumnToColumn),
+        2 => WayAnswer::Is(Way::ColumnToHome),
+        3 => WayAnswer::Is(Way::ColumnToCell),
+        4 => WayAnswer::Is(Way::CellToColumn),
+        5 => WayAnswer::Is(Way::CellToHome),
+        6 => WayAnswer::Is(Way::HomeToColumn),
+        _ => WayAnswer::NoWay,
+    }
+}

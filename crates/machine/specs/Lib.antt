@@ -1,6 +1,0 @@
--- Read these in this order.
-pub mod Memory
-pub mod Traced
-pub mod View
-pub mod Machine
-pub mod Steps

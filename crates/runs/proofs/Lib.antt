@@ -1,0 +1,2 @@
+-- Laws for the functions.
+pub mod Lying
