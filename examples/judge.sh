@@ -1,9 +1,9 @@
 #!/bin/sh
 # Builds the library and the C example, and judges the board image in a file: examples/judge.sh FILE [BUDGET [NODES [partial]]]
-# CORBELNIB_ARCHIVE, if set, is a folder with a libcorbelnib.a that is taken as it is.
+# CORBELNIB_ARCHIVE, if set, is a folder with a libcorbelnib.a that is taken as it is. CFLAGS are more words for the compiler.
 set -eu
 root=$(cd "$(dirname "$0")/.." && pwd)
 folder=${CORBELNIB_ARCHIVE:-$(sh "$root/tools/archive.sh")}
-${CC:-cc} -std=c11 -O2 -Wall -Wextra -pedantic -I "$root/include" "$root/examples/judge.c" "$folder/libcorbelnib.a" \
+${CC:-cc} -std=c11 -O2 -Wall -Wextra -pedantic ${CFLAGS:-} -I "$root/include" "$root/examples/judge.c" "$folder/libcorbelnib.a" \
     -o "$folder/judge"
 exec "$folder/judge" "$@"

@@ -1,22 +1,64 @@
 #!/bin/sh
-# Holds the functions that C can call against each other: the code (crates/corbelnib/src/lib.rt), the header, and the list of which demand 1
-# speaks (crates/demands/specs/Calls.antt). No function may ask anything of its caller.
+# Holds the functions that C can call against each other: the code (crates/corbelnib/src/lib.rt), the header's prototypes, and the
+# list of which demand 1 speaks (crates/demands/specs/Calls.antt). No function may ask anything of its caller.
 set -eu
 cd "$(dirname "$0")/.."
-code=$(sed -n 's/^pub extern "C" fn corbelnib_\([a-z_]*\)(.*/\1/p' crates/corbelnib/src/lib.rt | sort)
-header=$(grep -o 'corbelnib_[a-z_]*(' include/corbelnib.h | sed 's/^corbelnib_//;s/($//' | sort -u)
+code=crates/corbelnib/src/lib.rt
+
+# Prototypes without the names of parameters, as C has them: from the code, where a slice is a pointer and a length ..
+in_code() {
+    awk '/^pub extern "C" fn / { head = 1; text = "" }
+        head { text = text " " $0 }
+        head && /-> [a-z0-9]+/ { print text; head = 0 }' "$code" |
+        sed 's/.* fn \([a-z_]*\)(\(.*\)) -> \([a-z0-9]*\).*/\3 \1(\2)/
+            s/[a-z_]*: //g
+            s/( */(/
+            s/, *)/)/
+            s/  */ /g
+            s/&mut \[\([a-z0-9]*\)\]/\1 *, usize/g
+            s/&\[\([a-z0-9]*\)\]/const \1 *, usize/g
+            s/&mut \([a-z0-9]*\)/\1 */g
+            s/usize/size_t/g
+            s/u8/uint8_t/g
+            s/u32/uint32_t/g
+            s/u64/uint64_t/g
+            s/i64/int64_t/g' | sort
+}
+
+# .. and from the header.
+in_header() {
+    awk 'BEGIN { RS = ";" }
+        {
+            gsub(/[ \n]+/, " ")
+            if (!match($0, /[a-z0-9_]+ corbelnib_[a-z_]+\([^()]*\)$/)) next
+            text = substr($0, RSTART, RLENGTH - 1)
+            open = index(text, "(")
+            count = split(substr(text, open + 1), types, /, */)
+            line = substr(text, 1, open)
+            for (i = 1; i <= count; i++) {
+                sub(/[a-z_]+$/, "", types[i])
+                sub(/ +$/, "", types[i])
+                line = line (i > 1 ? ", " : "") types[i]
+            }
+            print line ")"
+        }' include/corbelnib.h | sort
+}
+
+names=$(sed -n 's/^pub extern "C" fn corbelnib_\([a-z_]*\)(.*/\1/p' "$code" | sort)
 demand=$(sed -n '/^boundary =/,/^$/p' crates/demands/specs/Calls.antt | tail -n +2 | tr '∷' '\n' | sed 's/[^a-z_]//g' | grep -v '^$' | sort)
 status=0
-if [ "$code" != "$header" ]; then
-    echo "include/corbelnib.h and crates/corbelnib/src/lib.rt differ in their functions" >&2
+apart=$( (in_code; in_header) | sort | uniq -u)
+if [ -n "$apart" ]; then
+    echo "include/corbelnib.h and $code differ in these prototypes:" >&2
+    echo "$apart" >&2
     status=1
 fi
-if [ "$code" != "$demand" ]; then
-    echo "demand 1 (crates/demands/specs/Calls.antt) does not speak of the functions of crates/corbelnib/src/lib.rt" >&2
+if [ "$names" != "$demand" ]; then
+    echo "demand 1 (crates/demands/specs/Calls.antt) does not speak of the functions of $code" >&2
     status=1
 fi
-if grep -q '^ *requires' crates/corbelnib/src/lib.rt; then
-    echo "crates/corbelnib/src/lib.rt: a function for C asks something of its caller" >&2
+if grep -q '^ *requires' "$code"; then
+    echo "$code: a function for C asks something of its caller" >&2
     status=1
 fi
 exit $status

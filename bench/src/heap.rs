@@ -12,7 +12,7 @@ static MOST: AtomicUsize = AtomicUsize::new(0);
 
 fn took(bytes: usize) {
     let out = OUT.fetch_add(bytes, Relaxed) + bytes;
-    // one thread: no other store comes between
+    // one thread searches: no other store comes between (the thread that tells the progress allocates only as it starts)
     if out > MOST.load(Relaxed) {
         MOST.store(out, Relaxed);
     }

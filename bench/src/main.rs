@@ -1,7 +1,5 @@
 // How fast the two judge, and what memory they take: the same deals and budgets, one after the other in one thread.
-// bench/run.sh builds both and calls this.
-//
-//     bench [NAME=NUMBER..]      first, last, budget, long
+// bench/run.sh builds both and calls this; usage.txt says with which words.
 #[path = "../../compare/src/codes.rs"]
 #[allow(dead_code)]
 mod codes;
@@ -19,6 +17,11 @@ mod original;
 #[path = "../../compare/src/ours.rs"]
 #[allow(dead_code)]
 mod ours;
+#[path = "../../compare/src/progress.rs"]
+mod progress;
+#[path = "../../compare/src/words.rs"]
+#[allow(dead_code)]
+mod words;
 
 use draws::Draws;
 use lent::{Room, Scratch};
@@ -28,6 +31,7 @@ use original::freecell::board::FreeCellBoard;
 use original::freecell::solver::{self, Judged};
 use std::time::Instant;
 
+const USAGE: &str = include_str!("../usage.txt");
 const MOST_POPS: usize = 1_000_000;
 const LIST: usize = 1_000;
 
@@ -187,45 +191,49 @@ fn clearing() {
     println!("clearing alone, scratch for {nodes} nodes (512 MB): {seconds:.3} s");
 }
 
+// Both on each deal, and then on some that end at the limit, with more pops.
+fn measure([first, last, budget, long]: [usize; 4]) {
+    let mut again = Vec::new();
+    let all = progress::told("deals", last - first + 1, |progress| {
+        let judge = |deal: usize| {
+            let board = solver::deal(&numbered(deal)).unwrap();
+            let came = both(&board, budget);
+            print_line(deal, &came);
+            if came.number == 3 && again.len() < long {
+                again.push((deal, board));
+            }
+            progress.one_done();
+            came
+        };
+        (first..=last).map(judge).collect::<Vec<Both>>()
+    });
+    summary(&all);
+    println!("at {MOST_POPS} pops");
+    println!("{HEADING}");
+    progress::told("long", again.len(), |progress| {
+        for (deal, board) in &again {
+            print_line(*deal, &both(board, MOST_POPS));
+            progress.one_done();
+        }
+    });
+}
+
 fn main() {
-    let mut numbers = [
+    let names = [
         ("first", 1),
         ("last", 100),
         ("budget", 100_000),
         ("long", 3),
     ];
-    for word in std::env::args().skip(1) {
-        let given = word
-            .split_once('=')
-            .and_then(|(name, n)| Some((name, n.parse().ok()?)));
-        let known =
-            given.and_then(|(name, n)| Some((numbers.iter_mut().find(|k| k.0 == name)?, n)));
-        let Some((known, n)) = known else {
-            panic!("{word}: not NAME=NUMBER");
-        };
-        known.1 = n;
+    let words = words::asked(USAGE, &[], &names);
+    let numbers @ [first, last, budget, _] = names.map(|(name, _)| words.number(name));
+    if first > last || budget > MOST_POPS {
+        words::wrong(USAGE, "first is at most last, budget at most 1000000");
     }
-    let [first, last, budget, long] = numbers.map(|known| known.1);
     println!("deals {first} to {last}, budget {budget}, no partial. Our scratch has room for just the nodes needed and is full of");
     println!("rubbish before each call: nothing is cleared first, the clearing that the judge does is part of its time. A search under");
     println!("20,000 pops is run several times by both, and the mean taken.");
     println!("{HEADING}");
-    let mut all = Vec::new();
-    let mut again = Vec::new();
-    for deal in first..=last {
-        let board = solver::deal(&numbered(deal)).unwrap();
-        let came = both(&board, budget);
-        print_line(deal, &came);
-        if came.number == 3 && again.len() < long {
-            again.push((deal, board));
-        }
-        all.push(came);
-    }
-    summary(&all);
-    println!("at {MOST_POPS} pops");
-    println!("{HEADING}");
-    for (deal, board) in again {
-        print_line(deal, &both(&board, MOST_POPS));
-    }
+    measure(numbers);
     clearing();
 }

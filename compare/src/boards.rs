@@ -33,16 +33,19 @@ pub fn shuffled(draws: &mut Draws) -> Vec<Card> {
     deck
 }
 
+pub fn won() -> FreeCellBoard {
+    FreeCellBoard::new(
+        [None; 4],
+        Suit::ALL.map(|s| pile(s, 13)),
+        Default::default(),
+    )
+}
+
 // Few cards out: taken back from a won board move by move, or laid anywhere.
 fn endgame(draws: &mut Draws) -> FreeCellBoard {
     if draws.once_in(2) {
-        let won = FreeCellBoard::new(
-            [None; 4],
-            Suit::ALL.map(|s| pile(s, 13)),
-            Default::default(),
-        );
         let moves = draws.below(60);
-        return played(draws, won, moves, [3, 1, 2, 2, 1, 6]).0;
+        return played(draws, won(), moves, [3, 1, 2, 2, 1, 6]).0;
     }
     let mut home = [13; 4];
     for _ in 0..draws.below(21) {
@@ -112,21 +115,81 @@ fn drawn(draws: &mut Draws, board: &FreeCellBoard, weights: [usize; 6]) -> Optio
     Some(kinds[kind][draws.below(kinds[kind].len())].clone())
 }
 
-// Random play: at most so many moves; the board then, and the moves.
+// Random play: at most so many moves, each with the board after it.
+pub fn game(
+    draws: &mut Draws,
+    start: &FreeCellBoard,
+    moves: usize,
+    weights: [usize; 6],
+) -> Vec<(FreeCellMove, FreeCellBoard)> {
+    let mut game: Vec<(FreeCellMove, FreeCellBoard)> = Vec::new();
+    while game.len() < moves {
+        let board = game.last().map_or(start, |(_, board)| board);
+        let Some(step) = drawn(draws, board, weights) else {
+            break;
+        };
+        let after = step.apply(board).unwrap();
+        game.push((step, after));
+    }
+    game
+}
+
+// The board at the end of random play, and the moves.
 pub fn played(
     draws: &mut Draws,
     start: FreeCellBoard,
     moves: usize,
     weights: [usize; 6],
 ) -> (FreeCellBoard, Vec<FreeCellMove>) {
-    let mut board = start;
-    let mut made = Vec::new();
-    while made.len() < moves {
-        let Some(step) = drawn(draws, &board, weights) else {
-            break;
-        };
-        board = step.apply(&board).unwrap();
-        made.push(step);
+    let (made, mut boards): (Vec<_>, Vec<_>) =
+        game(draws, &start, moves, weights).into_iter().unzip();
+    (boards.pop().unwrap_or(start), made)
+}
+
+// The boards of random play after move `at`, and then after every so many.
+pub fn stops(
+    draws: &mut Draws,
+    start: &FreeCellBoard,
+    moves: usize,
+    weights: [usize; 6],
+    (at, every): (usize, usize),
+) -> Vec<FreeCellBoard> {
+    let boards = game(draws, start, moves, weights).into_iter();
+    let numbered = (1..).zip(boards.map(|(_, board)| board));
+    numbered
+        .filter(|(made, _)| made % every == at % every)
+        .map(|(_, board)| board)
+        .collect()
+}
+
+// A board that nobody dealt: up to `home` cards of a suit home, some in cells, the rest in columns of at most `most` cards.
+pub fn made_up(draws: &mut Draws, home: usize, held: usize, most: usize) -> FreeCellBoard {
+    let home = [0; 4].map(|_| draws.below(home + 1));
+    let mut others = shuffled(draws);
+    others.retain(|card| card.value as usize > home[card.suit as usize]);
+    let mut cells = [None; 4];
+    for cell in cells.iter_mut().take(held) {
+        *cell = others.pop();
     }
-    (board, made)
+    let mut columns: [Vec<Card>; 8] = Default::default();
+    for card in others {
+        let mut i = draws.below(8);
+        while columns[i].len() >= most {
+            i = (i + 1) % 8;
+        }
+        columns[i].push(card);
+    }
+    FreeCellBoard::new(cells, Suit::ALL.map(|s| pile(s, home[s as usize])), columns)
+}
+
+// All 52 cards in one column.
+pub fn heaped(draws: &mut Draws) -> FreeCellBoard {
+    let mut columns: [Vec<Card>; 8] = Default::default();
+    columns[3] = shuffled(draws);
+    FreeCellBoard::new([None; 4], Default::default(), columns)
+}
+
+// A column over seven cards.
+pub fn is_long(board: &FreeCellBoard) -> bool {
+    board.tableau.iter().any(|column| column.len() > 7)
 }

@@ -8,9 +8,9 @@ use crate::original::common::card::{Card, Suit};
 use crate::original::freecell::board::FreeCellBoard;
 use crate::original::freecell::solver;
 use crate::refusals::{self, Asked, FEATURES, LIST, MOST_POPS, RECORDS, TOKEN};
+use crate::sheet::Sheet;
 use crate::tasks::Run;
 use std::collections::BTreeMap;
-use std::path::Path;
 
 const NAMES: [&str; 15] = [
     "examine",
@@ -34,8 +34,6 @@ const MARK: u8 = 165;
 const ROOM: usize = 4_200;
 const FEATURES_ROOM: usize = 9;
 const SCRATCH: [usize; 4] = [8, 3, 6, 6];
-// what the program reads at most
-const INPUT: usize = 60_000;
 
 // A function, how much room it is lent, so many bytes of a board with one byte put, and what else it is given.
 #[derive(Clone)]
@@ -246,7 +244,6 @@ fn piles(home: [usize; 4]) -> [Vec<Card>; 4] {
 // SCOPE.md's boards S and T; a won one; a deal; the middle of a game and an endgame on which there are moves of every kind.
 fn on_boards(draws: &mut Draws) -> Vec<FreeCellBoard> {
     let mut columns: [Vec<Card>; 8] = Default::default();
-    let won = FreeCellBoard::new([None; 4], piles([13; 4]), columns.clone());
     columns[0].push(Card::new(Suit::Spade, 13));
     let s = FreeCellBoard::new([None; 4], piles([13, 13, 13, 12]), columns);
     let clubs = codes::pile(Suit::Club, 13);
@@ -256,7 +253,7 @@ fn on_boards(draws: &mut Draws) -> Vec<FreeCellBoard> {
     let columns = [0, 1, 2, 3, 4, 5, 6, 7].map(|i| [under(i), vec![clubs[1 + i]]].concat());
     let cells = [9, 10, 11, 12].map(|i| Some(clubs[i]));
     let t = FreeCellBoard::new(cells, piles([0; 4]), columns);
-    let mut boards = vec![s, t, won, boards::board(draws, 0)];
+    let mut boards = vec![s, t, boards::won(), boards::board(draws, 0)];
     boards.extend([1, 3].map(|kind| lively(draws, kind)));
     boards
 }
@@ -498,7 +495,7 @@ fn all_calls(run: &Run) -> Vec<Call> {
 pub fn write(run: &Run) -> std::io::Result<()> {
     let calls = all_calls(run);
     let mut met: BTreeMap<&str, BTreeMap<String, usize>> = BTreeMap::new();
-    let (mut input, mut output) = (Vec::new(), String::new());
+    let mut sheet = Sheet::default();
     for call in &calls {
         let line = call.line();
         let number = line.split(' ').nth(1).unwrap().to_string();
@@ -506,15 +503,12 @@ pub fn write(run: &Run) -> std::io::Result<()> {
             .or_default()
             .entry(number)
             .or_default() += 1;
-        input.extend(call.input());
-        output += &line;
+        sheet.input.extend(call.input());
+        sheet.output += &line;
     }
-    assert!(input.len() < INPUT);
-    println!("calls: {}, {} bytes of input", calls.len(), input.len());
+    println!("  {} calls", calls.len());
     for (function, numbers) in met {
         println!("  {function}: {numbers:?}");
     }
-    let folder = Path::new(env!("CARGO_MANIFEST_DIR")).join("../crates/oracle_calls");
-    std::fs::write(folder.join("stdin"), input)?;
-    std::fs::write(folder.join("stdout"), output)
+    sheet.write("oracle_calls")
 }

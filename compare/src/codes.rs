@@ -17,8 +17,13 @@ pub fn card(code: u8) -> Option<Card> {
     (1..=13).contains(&value).then(|| Card::new(suit, value))
 }
 
-fn cell_code(cell: Option<Card>) -> u8 {
+pub fn cell_code(cell: Option<Card>) -> u8 {
     cell.map_or(EMPTY, code)
+}
+
+// The 52 cards, aces first.
+pub fn pack() -> impl Iterator<Item = Card> {
+    (1..=13).flat_map(|value| Suit::ALL.map(|suit| Card::new(suit, value)))
 }
 
 // 432 bytes: four cells, four foundation counts, eight column counts, 416 codes.

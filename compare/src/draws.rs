@@ -1,6 +1,11 @@
-// Draws that are the same on every machine: SplitMix64. Every task has its own, from the run's seed, the work and its number,
-// so that any task can be run again alone and threads change nothing.
-pub struct Draws(u64);
+// Draws that are the same on every machine. Every task has its own, from the run's seed, the work and its number, so that any
+// task can be run again alone and threads change nothing.
+pub enum Draws {
+    // SplitMix64
+    Split(u64),
+    // Knuth's 64-bit linear congruential generator: the samples that the work `oracles` writes were drawn with it
+    Knuth(u64),
+}
 
 const STEP: u64 = 0x9e37_79b9_7f4a_7c15;
 
@@ -13,12 +18,21 @@ pub fn mixed(n: u64) -> u64 {
 
 impl Draws {
     pub fn new(seed: u64, work: u64, task: u64) -> Draws {
-        Draws(mixed(mixed(seed.wrapping_add(STEP) ^ mixed(work)) ^ task))
+        Draws::Split(mixed(mixed(seed.wrapping_add(STEP) ^ mixed(work)) ^ task))
     }
 
     pub fn word(&mut self) -> u64 {
-        self.0 = self.0.wrapping_add(STEP);
-        mixed(self.0)
+        match self {
+            Draws::Split(state) => {
+                *state = state.wrapping_add(STEP);
+                mixed(*state)
+            }
+            Draws::Knuth(state) => {
+                let product = state.wrapping_mul(6_364_136_223_846_793_005);
+                *state = product.wrapping_add(1_442_695_040_888_963_407);
+                *state
+            }
+        }
     }
 
     pub fn byte(&mut self) -> u8 {
@@ -27,7 +41,12 @@ impl Draws {
 
     // 0 to n - 1
     pub fn below(&mut self, n: usize) -> usize {
-        (self.word() >> 11) as usize % n
+        let word = self.word();
+        let high = match self {
+            Draws::Split(_) => word >> 11,
+            Draws::Knuth(_) => word >> 33,
+        };
+        high as usize % n
     }
 
     // true once in n times

@@ -20,43 +20,7 @@ pub mod freecell {
 
         use crate::gauge;
 
-        // In SCOPE.md's order: home, immediate, blocked, imbalance, used, empty, longest.
-        pub fn features(board: &FreeCellBoard) -> [u64; 7] {
-            let f = compute_features(board);
-            [
-                f.foundation_count as u64,
-                f.immediate_foundation_moves as u64,
-                f.blocked_low_cards as u64,
-                f.foundation_imbalance as u64,
-                f.free_cells_used as u64,
-                f.empty_tableau as u64,
-                f.longest_run as u64,
-            ]
-        }
-
-        // The heuristic and the progress score.
-        pub fn scores(board: &FreeCellBoard) -> (i64, i64) {
-            let f = compute_features(board);
-            (heuristic_cost(&f), progress_score(&f))
-        }
-
-        pub fn priority(board: &FreeCellBoard, step: &FreeCellMove) -> Option<i64> {
-            let after = step.apply(board)?;
-            Some(local_priority(step, &compute_features(board), &after))
-        }
-
-        pub fn candidates(board: &FreeCellBoard) -> Vec<FreeCellMove> {
-            let found = find_all_moves(board);
-            found.into_iter().map(|(step, _)| step).collect()
-        }
-
-        // The safe chain: its length and the board after it.
-        pub fn chain(board: &FreeCellBoard) -> (usize, FreeCellBoard) {
-            match auto_play_safe_chain(board) {
-                Some((after, moves)) => (moves.len(), after),
-                None => (0, board.clone()),
-            }
-        }
+        include!("private.rs");
 
         // What a search came to: SCOPE.md's number, the pops, the list; how many nodes were made, how deep the deepest
         // lies, and after how many pops it was made.

@@ -2,17 +2,15 @@
 // program crates/oracle_judge, whose src/main.rt says how they are laid out.
 use crate::original::freecell::board::FreeCellBoard;
 use crate::original::freecell::solver::{self, Judged};
+use crate::sheet::Sheet;
 use crate::tasks::Run;
-use crate::{boards, codes, deep, gauge};
-use std::path::Path;
+use crate::{boards, codes, deep, gauge, progress};
 
 const BUDGETS: [usize; 6] = [0, 1, 2, 10, 100, 1_000];
 // the most nodes of a random board
 const NODES: usize = 2_000;
 // the most nodes that the program has memory for
 const MORE_NODES: usize = 24_000;
-// what the program reads at most
-const INPUT: usize = 60_000;
 
 fn line(judged: &Judged) -> String {
     let list: String = judged
@@ -97,31 +95,41 @@ fn otherwise(cases: &[Case], depth: usize) {
     println!("  depth {depth} differs in lines {lines:?}");
 }
 
+// Random boards, and then those that go deep.
+fn all_cases(run: &Run, tasks: usize) -> Vec<Case> {
+    let (tasks, known) = (run.first..run.first.max(tasks), deep::known());
+    progress::told("sample", tasks.len() + known.len(), |progress| {
+        let mut cases = Vec::new();
+        for task in tasks {
+            cases.extend(random(run, task));
+            progress.one_done();
+        }
+        for board in known {
+            cases.extend(deep(board));
+            progress.one_done();
+        }
+        cases
+    })
+}
+
 pub fn write(run: &Run, tasks: usize) -> std::io::Result<()> {
-    let mut cases: Vec<Case> = (run.first..run.first.max(tasks))
-        .flat_map(|task| random(run, task))
-        .collect();
-    cases.extend(deep::known().into_iter().flat_map(deep));
-    let (mut input, mut output) = (Vec::new(), String::new());
+    let cases = all_cases(run, tasks);
+    let mut sheet = Sheet::default();
     let mut numbers = [0; 24];
     for case in &cases {
         let judged = case.judged(gauge::DEPTH);
         numbers[judged.number as usize] += 1;
-        input.extend(case.bytes());
-        output += &line(&judged);
+        sheet.input.extend(case.bytes());
+        sheet.output += &line(&judged);
     }
-    assert!(input.len() < INPUT);
     assert!(cases.iter().all(|case| case.nodes <= MORE_NODES));
     println!(
-        "sample: {} bytes of input; answers 0 to 4 and 23: {:?} {}",
-        input.len(),
+        "  answers 0 to 4 and 23: {:?} {}",
         &numbers[..5],
         numbers[23]
     );
     for depth in deep::OTHERS {
         otherwise(&cases, depth);
     }
-    let folder = Path::new(env!("CARGO_MANIFEST_DIR")).join("../crates/oracle_judge");
-    std::fs::write(folder.join("stdin"), input)?;
-    std::fs::write(folder.join("stdout"), output)
+    sheet.write("oracle_judge")
 }

@@ -2,8 +2,10 @@
 use crate::asks::Difference;
 use crate::draws::Draws;
 use crate::original::freecell::board::FreeCellBoard;
+use crate::progress;
 use crate::work::{self, Report, Tally};
 use crate::{boards, calls, codes, damage, deep, judging, plain, refusals, sample, shrink};
+use crate::{oracle_boards, oracle_moves, oracle_scores, oracle_signatures, texts};
 
 pub struct Run {
     pub seed: u64,
@@ -177,8 +179,24 @@ fn on_damage(run: &Run, task: usize, tally: &mut Tally) -> Result<(), Report> {
     }
 }
 
+type Write = fn() -> std::io::Result<()>;
+
+// Programs of the gate whose input and expected output is drawn by Knuth's generator, from seeds of their own.
+const ORACLES: [(&str, Write); 5] = [
+    ("oracle_boards", oracle_boards::write),
+    ("oracle_moves", oracle_moves::write),
+    ("oracle_signatures", oracle_signatures::write),
+    ("oracle_scores", oracle_scores::write),
+    ("texts", texts::write),
+];
+
+fn written(name: &str, write: impl FnOnce() -> std::io::Result<()>) -> Result<(), Report> {
+    println!("{name}");
+    write().map_err(|why| format!("{name}: {why}"))
+}
+
 // A work by its name.
-pub fn done(run: &Run, name: &str, tasks: usize) -> Result<(), Report> {
+pub fn done(run: &Run, name: &'static str, tasks: usize) -> Result<(), Report> {
     let threads = run.threads;
     let all = run.first..run.first.max(tasks);
     match name {
@@ -194,7 +212,14 @@ pub fn done(run: &Run, name: &str, tasks: usize) -> Result<(), Report> {
         "damage" => work::run(name, all, threads, |task, tally| {
             on_damage(run, task, tally)
         }),
-        "calls" => calls::write(run).map_err(|why| why.to_string()),
-        _ => sample::write(run, tasks).map_err(|why| why.to_string()),
+        "calls" => written(name, || calls::write(run)),
+        "sample" => written(name, || sample::write(run, tasks)),
+        _ => progress::told(name, ORACLES.len(), |progress| {
+            ORACLES.into_iter().try_for_each(|(program, write)| {
+                written(program, write)?;
+                progress.one_done();
+                Ok(())
+            })
+        }),
     }
 }

@@ -1,4 +1,5 @@
 // Tasks by number on several threads, until all are done or one finds a difference; what they count is added up.
+use crate::progress::{self, Progress};
 use std::collections::BTreeMap;
 use std::ops::Range;
 use std::sync::atomic::{AtomicUsize, Ordering};
@@ -45,7 +46,7 @@ struct Shared {
 
 // All tasks; or the difference of the lowest task, of those found before all threads stopped.
 pub fn run(
-    name: &str,
+    name: &'static str,
     tasks: Range<usize>,
     threads: usize,
     task: impl Fn(usize, &mut Tally) -> Result<(), Report> + Sync,
@@ -56,13 +57,15 @@ pub fn run(
         found: Mutex::default(),
         total: Mutex::default(),
     };
-    std::thread::scope(|scope| {
-        for _ in 0..threads {
-            scope.spawn(|| work(&shared, tasks.end, &task));
-        }
+    progress::told(name, tasks.len(), |progress| {
+        std::thread::scope(|scope| {
+            for _ in 0..threads {
+                scope.spawn(|| work(&shared, tasks.end, progress, &task));
+            }
+        })
     });
     if let Some((number, report)) = shared.found.into_inner().unwrap() {
-        return Err(format!("{name}, task {number}: {report}"));
+        return Err(format!("DIFFERENT: {name}, task {number}: {report}"));
     }
     let spent = start.elapsed().as_secs_f64();
     println!("{name}: {} equal, {spent:.1} s", tasks.len());
@@ -71,7 +74,12 @@ pub fn run(
 }
 
 // One thread: takes tasks until there are none, and leaves none if it finds a difference.
-fn work(shared: &Shared, end: usize, task: &impl Fn(usize, &mut Tally) -> Result<(), Report>) {
+fn work(
+    shared: &Shared,
+    end: usize,
+    progress: &Progress,
+    task: &impl Fn(usize, &mut Tally) -> Result<(), Report>,
+) {
     let mut tally = Tally::default();
     loop {
         let number = shared.next.fetch_add(1, Ordering::Relaxed);
@@ -85,6 +93,7 @@ fn work(shared: &Shared, end: usize, task: &impl Fn(usize, &mut Tally) -> Result
                 *found = Some((number, report));
             }
         }
+        progress.one_done();
     }
     shared.total.lock().unwrap().add(tally);
 }

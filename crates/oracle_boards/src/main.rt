@@ -1,5 +1,5 @@
 // Reads board images and decks from standard input and writes a line about each, for comparison with the original:
-// its input and the output that is expected are the original's (compare/).
+// its input and the output that is expected are the original's (compare/src/oracle_boards.rs).
 mod answers;
 
 // The bytes of an item: an image after a byte 1, a deck of 52 after a byte 2; 0 for anything else.

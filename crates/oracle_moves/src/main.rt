@@ -1,5 +1,5 @@
 // Reads boards with move records and a list each from standard input, and writes what the rules, the generators, one
-// move and replay make of them: its input and the output that is expected are the original's (compare/moves.rs).
+// move and replay make of them: its input and the output that is expected are the original's (compare/src/oracle_moves.rs).
 ghost use Prim.Native.Nat.{_≤_};
 
 mod answers;

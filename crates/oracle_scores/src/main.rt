@@ -1,5 +1,5 @@
 // Reads board images from standard input and writes their features, scores, token, safe play and candidates, for comparison
-// with the original (compare/scores.rs).
+// with the original (compare/src/oracle_scores.rs).
 ghost use Prim.Native.Nat.{_≤_};
 use board::Board;
 use board::Examined;

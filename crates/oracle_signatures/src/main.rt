@@ -1,5 +1,5 @@
 // Reads octets and board images from standard input and writes the FNV-1a hash or the signature of each, for comparison
-// with published hashes and with the original's signatures (compare/signatures.rs).
+// with published hashes and with the original's signatures (compare/src/oracle_signatures.rs).
 use board::Examined;
 use board::Refusal;
 use signature::SignatureAnswer;
