@@ -16,7 +16,7 @@ functions() { # PATH FILE
 }
 
 in_code() {
-    for crate in $(sed -n '/^# Programs/q;s/^\([a-z_]*\):.*/\1/p' crates.txt) magnitude; do
+    for crate in $(sed -n '/^# Programs/q;s/^\([a-z_]*\):.*/\1/p' crates.txt) framed magnitude; do
         [ -f "crates/$crate/src/lib.rt" ] || continue
         functions "$crate::" "crates/$crate/src/lib.rt"
         for module in $(sed -n 's/^pub mod \([a-z_]*\);/\1/p' "crates/$crate/src/lib.rt"); do

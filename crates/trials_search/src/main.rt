@@ -31,84 +31,48 @@ fn judged(
     say::line_end();
 }
 
-// A word short of a node.
-fn room_for_none(b: Board, budget: usize, partial: bool, list: &mut [u8]) {
-    let mut nodes = [4294967295u32; 2];
-    let mut heap = [18446744073709551615u64; 1];
-    let mut keys = [12345678901234567890u64; 2];
-    let mut costs = [1u8; 2];
-    judged(
-        b,
-        budget,
-        partial,
-        &mut nodes,
-        &mut heap,
-        &mut keys,
-        &mut costs,
-        list,
-    );
-}
-
-// One node.
-fn room_for_one(b: Board, budget: usize, partial: bool, list: &mut [u8]) {
-    let mut nodes = [4294967295u32; 3];
-    let mut heap = [18446744073709551615u64; 1];
-    let mut keys = [12345678901234567890u64; 2];
-    let mut costs = [1u8; 2];
-    judged(
-        b,
-        budget,
-        partial,
-        &mut nodes,
-        &mut heap,
-        &mut keys,
-        &mut costs,
-        list,
-    );
-}
-
-// Two nodes.
-fn room_for_two(b: Board, budget: usize, partial: bool, list: &mut [u8]) {
-    let mut nodes = [4294967295u32; 6];
-    let mut heap = [18446744073709551615u64; 2];
-    let mut keys = [12345678901234567890u64; 4];
-    let mut costs = [1u8; 4];
-    judged(
-        b,
-        budget,
-        partial,
-        &mut nodes,
-        &mut heap,
-        &mut keys,
-        &mut costs,
-        list,
-    );
-}
-
-// Sixty-four nodes.
-fn room_for_many(b: Board, budget: usize, partial: bool, list: &mut [u8]) {
+// A search in the first words of memory that is full of rubbish.
+fn in_part(
+    b: Board,
+    budget: usize,
+    partial: bool,
+    words: usize,
+    waiting: usize,
+    entries: usize,
+    list: &mut [u8],
+) {
     let mut nodes = [4294967295u32; 192];
     let mut heap = [18446744073709551615u64; 64];
     let mut keys = [12345678901234567890u64; 128];
     let mut costs = [1u8; 128];
+    if 192 < words {
+        return;
+    }
+    if 64 < waiting {
+        return;
+    }
+    if 128 < entries {
+        return;
+    }
     judged(
         b,
         budget,
         partial,
-        &mut nodes,
-        &mut heap,
-        &mut keys,
-        &mut costs,
+        &mut nodes[..words],
+        &mut heap[..waiting],
+        &mut keys[..entries],
+        &mut costs[..entries],
         list,
     );
 }
 
+// Room for so many nodes, or for 64; for none, a word short of a node.
 fn with_room(b: Board, budget: usize, partial: bool, capacity: usize, list: &mut [u8]) {
     match capacity {
-        0 => room_for_none(b, budget, partial, list),
-        1 => room_for_one(b, budget, partial, list),
-        2 => room_for_two(b, budget, partial, list),
-        _ => room_for_many(b, budget, partial, list),
+        0 => in_part(b, budget, partial, 2, 1, 2, list),
+        1 => in_part(b, budget, partial, 3, 1, 2, list),
+        2 => in_part(b, budget, partial, 6, 2, 4, list),
+        _ => in_part(b, budget, partial, 192, 64, 128, list),
     }
 }
 

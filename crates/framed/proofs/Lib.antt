@@ -1,0 +1,2 @@
+-- Laws for the function.
+pub mod Stepping

@@ -1,0 +1,2 @@
+-- What is to be believed.
+pub mod Items
