@@ -1,4 +1,3 @@
-use Rattle.memory.specs.View.{told}
 -- What is known of a child's board decides whether it is dropped.
 use mathlib.Core.Path.{_≡_, sym, _∙_, subst}
 use mathlib.Core.Bool.{true, false}
@@ -17,6 +16,7 @@ use Rattle.costs.specs.declared.Slot.the-variants.{At, Free, Full}
 use Rattle.costs.proofs.Entries.{used-not, held-used}
 use Rattle.costs.proofs.Slots.{table-none}
 use Rattle.search.specs.Solve.{asGood}
+use Rattle.memory.specs.View.{told}
 use Rattle.memory.proofs.Bearing.{held-good, vacant-good}
 use Rattle.children.specs.Inner.{Chooses}
 use Rattle.children.specs.Inner.{Empty}

@@ -1,4 +1,3 @@
-use Rattle.memory.specs.View.{told}
 -- One child, case by case: the memory shows what the definition makes of it.
 use mathlib.Core.Path.{_≡_, refl, sym, ap, subst}
 use mathlib.Core.Bool.{true, false}
@@ -21,6 +20,7 @@ use Rattle.candidates.specs.Inner as candidates
 use Rattle.candidates.specs.Inner.{Playable}
 use Rattle.nodes.specs.Step.{costAt}
 use Rattle.search.specs.Solve.{asGood}
+use Rattle.memory.specs.View.{told}
 use Rattle.memory.specs.declared.Room.{Room}
 use Rattle.memory.specs.declared.Counts.{Counts}
 use Rattle.memory.specs.declared.Growth.the-variants as growth
