@@ -80,11 +80,11 @@ module _ (starts counts codes : List ℕ) (i : ℕ) where
       ap (λ (n : ℕ). take n (drop (getD starts i 0) codes)) c ∙ ap (λ (n : ℕ). take count (drop n codes)) s
 
 pub spare-is : (counts tableau : List ℕ) (i w : ℕ) → w ≡ getD counts i 0
-    → take ((i * room + 52) - (i * room + w)) (drop (i * room + w) tableau) ≡ spareAt counts tableau i
+    → take ((i * room + room) - (i * room + w)) (drop (i * room + w) tableau) ≡ spareAt counts tableau i
 unfolding spareAt
 spare-is counts tableau i w e =
-    ap (λ (n : ℕ). take n (drop (i * room + w) tableau)) (let q : (i * room + 52) - (i * room + w) ≡ 52 - w = omega arith in q)
-    ∙ ap (λ (n : ℕ). take (52 - n) (drop (i * room + n) tableau)) e
+    ap (λ (n : ℕ). take n (drop (i * room + w) tableau)) (let q : (i * room + room) - (i * room + w) ≡ room - w = omega arith in q)
+    ∙ ap (λ (n : ℕ). take (room - n) (drop (i * room + n) tableau)) e
 
 -- ---- counts
 

@@ -85,7 +85,7 @@ module _ (b : Board) where
 
 -- where the rooms of a record's columns begin
 abbrev pub roomStarts : List ℕ
-roomStarts = 0 ∷ 52 ∷ 104 ∷ 156 ∷ 208 ∷ 260 ∷ 312 ∷ 364 ∷ []
+roomStarts = 0 ∷ room ∷ 2 * room ∷ 3 * room ∷ 4 * room ∷ 5 * room ∷ 6 * room ∷ 7 * room ∷ []
 
 pub start-of : (i : ℕ) → i < 8 → getD roomStarts i 0 ≡ i * room
 unfolding listed

@@ -116,7 +116,7 @@ module _ (b : Board) (g : GoodColumns (b .counts) (b .tableau)) (i : ℕ) (h : i
 
 -- ---- one card more on a column
 
-module _ (b : Board) (g : GoodColumns (b .counts) (b .tableau)) (i : ℕ) (h : i < 8) (less : getD (b .counts) i 0 < 52)
+module _ (b : Board) (g : GoodColumns (b .counts) (b .tableau)) (i : ℕ) (h : i < 8) (less : getD (b .counts) i 0 < room)
     (code : ℕ) (isc : isCard code ≡ true) (w : ℕ) (e : w ≡ getD (b .counts) i 0) where
   abbrev col : List ℕ
   col = columnAt (b .counts) (b .tableau) i
@@ -258,7 +258,7 @@ module _ (b : Board) (g : GoodColumns (b .counts) (b .tableau)) (i : ℕ) (h : i
 -- ---- a run once more on another column
 
 module _ (b : Board) (g : GoodColumns (b .counts) (b .tableau)) (s d : ℕ) (hs : s < 8) (hd : d < 8) (n : ℕ) (enough : n ≤ getD (b .counts) s 0)
-    (fits : getD (b .counts) d 0 + n ≤ 52) (v : ℕ) (ev : v ≡ getD (b .counts) s 0) (w : ℕ) (ew : w ≡ getD (b .counts) d 0)
+    (fits : getD (b .counts) d 0 + n ≤ room) (v : ℕ) (ev : v ≡ getD (b .counts) s 0) (w : ℕ) (ew : w ≡ getD (b .counts) d 0)
     (T : List ℕ) (c : Copied (b .tableau) T (s * room + (v - n)) (d * room + w) n) where
   abbrev source : List ℕ
   source = columnAt (b .counts) (b .tableau) s

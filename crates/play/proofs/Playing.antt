@@ -102,7 +102,7 @@ module _ {b : Board} {s d n : ℕ} {c : Card} (r : Ready b (TableauToTableau s d
   unfolding hand lastOf
   hand-long = length-drop (length (there tb (column s)) - n) (there tb (column s)) ∙ (let e = tests r .enough in omega arith)
 
-  pub run-fits : getD (b .counts) d 0 + n ≤ 52
+  pub run-fits : getD (b .counts) d 0 + n ≤ room
   unfolding afterMove without
   run-fits =
       let m = TableauToTableau s d n c in
@@ -156,7 +156,7 @@ module _ (b : Board) (m : Move) {r1 : Board} (e : Becomes r1 (without (shown b) 
       }
 
   -- a column that takes one card more has room for it
-  pub step-room : Ready b m → (d : ℕ) → d < 8 → to m ≡ column d → length (hand (shown b) m) ≡ 1 → getD (r1 .counts) d 0 < 52
+  pub step-room : Ready b m → (d : ℕ) → d < 8 → to m ≡ column d → length (hand (shown b) m) ≡ 1 → getD (r1 .counts) d 0 < room
   unfolding afterMove
   step-room r d h q one =
       let u = without (shown b) m in
@@ -310,7 +310,7 @@ module _ {b r1 : Board} {i d : ℕ} {c : Card} (r : Ready b (FreeCellToTableau i
   unfolding without
   taken-4 = f (othersOf 1 (there (shown b) (cell i))) (sym (cell-given (shown b) i))
 
-  pub room-4 : getD (r1 .counts) d 0 < 52
+  pub room-4 : getD (r1 .counts) d 0 < room
   room-4 = step-room b (FreeCellToTableau i d c) taken-4 r d (column-to r d refl) refl (ap length (in-hand r refl))
 
   pub played-4 : {r2 : Board} {x : ℕ} → x ≡ codeOf c → Becomes r2 (put (shown r1) (column d) (there (shown r1) (column d) ++ (x ∷ [])))
@@ -334,7 +334,7 @@ module _ {b r1 : Board} {s : Suit} {d : ℕ} {c : Card} (r : Ready b (Foundation
       f (othersOf 1 (there (shown b) (home (suitNumber s))))
       (ap (λ (l : List ℕ). getD l (suitNumber s) 0 - 1) (shown-foundation b) ∙ sym (pile-given (shown b) (suitNumber s)))
 
-  pub room-6 : getD (r1 .counts) d 0 < 52
+  pub room-6 : getD (r1 .counts) d 0 < room
   room-6 = step-room b (FoundationToTableau s d c) taken-6 r d (column-to r d refl) refl (ap length (in-hand r refl))
 
   pub played-6 : {r2 : Board} {x : ℕ} → x ≡ codeOf c → Becomes r2 (put (shown r1) (column d) (there (shown r1) (column d) ++ (x ∷ [])))

@@ -122,10 +122,10 @@ run-top (x ∷ l) (suc j) h = by-run (isRun (x ∷ l)) refl (run-top l j (le-of-
     by-run false e i = i ∙ ap (λ (n : ℕ). leb n (runLength l)) (let q : length l - j ≡ suc (length l) - suc j = omega arith in q)
 
 -- a place within a column of a record has a card
-pub card-in : {counts tableau : List ℕ} → GoodColumns counts tableau → (i place : ℕ) → i < 8 → i * 52 ≤ place → place < i * 52 + getD counts i 0
+pub card-in : {counts tableau : List ℕ} → GoodColumns counts tableau → (i place : ℕ) → i < 8 → i * room ≤ place → place < i * room + getD counts i 0
     → isCard (getD tableau place 0) ≡ true
 card-in {counts} {tableau} g i place h a b =
-    subst (λ (p : ℕ). isCard (getD tableau p 0) ≡ true) (let q : i * 52 + (place - i * 52) ≡ place = omega arith in q) (g .codes i (place - i * 52) h (omega arith))
+    subst (λ (p : ℕ). isCard (getD tableau p 0) ≡ true) (let q : i * room + (place - i * room) ≡ place = omega arith in q) (g .codes i (place - i * room) h (omega arith))
 
 -- ---- one step down a column of a record: its run of `run` cards, and the card under it
 

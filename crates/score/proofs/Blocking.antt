@@ -49,7 +49,7 @@ unfolding blockedIn
 blocked-end l k h = ap blockedIn (drop-of-length-le l h)
 
 -- a short list adds little
-blocked-little : (l : List ℕ) → length l ≤ 52 → blockedIn l ≤ 52 * length l
+blocked-little : (l : List ℕ) → length l ≤ room → blockedIn l ≤ room * length l
 unfolding blockedIn
 blocked-little [] h = omega arith
 blocked-little (x ∷ l) h = let i = blocked-little l (omega arith) in let m = by-most (leb (x / 16) 3) (length l) in omega arith
@@ -57,17 +57,17 @@ blocked-little (x ∷ l) h = let i = blocked-little l (omega arith) in let m = b
 -- ---- columns
 
 module _ {counts tableau : List ℕ} (g : GoodColumns counts tableau) (i w : ℕ) (h : i < 8) (e : w ≡ getD counts i 0) where
-  column-52 : length (columnAt counts tableau i) ≤ 52
-  column-52 = let n = column-length g i h in let b = g .within i h in omega arith
+  column-within : length (columnAt counts tableau i) ≤ room
+  column-within = let n = column-length g i h in let b = g .within i h in omega arith
 
-  pub column-short : length (take (i * room + w - i * room) (drop (i * room) tableau)) ≤ 52
-  column-short = subst (λ (l : List ℕ). length l ≤ 52) (sym (column-part counts tableau i e)) column-52
+  pub column-short : length (take (i * room + w - i * room) (drop (i * room) tableau)) ≤ room
+  column-short = subst (λ (l : List ℕ). length l ≤ room) (sym (column-part counts tableau i e)) column-within
 
   pub column-adds : {r : ℕ} → r ≡ blockedIn (take (i * room + w - i * room) (drop (i * room) tableau)) → r ≡ blockedIn (columnAt counts tableau i)
   column-adds q = q ∙ ap blockedIn (column-part counts tableau i e)
 
   pub column-little : blockedIn (columnAt counts tableau i) ≤ 2704
-  column-little = let c = column-52 in let b = blocked-little (columnAt counts tableau i) c in omega arith
+  column-little = let c = column-within in let b = blocked-little (columnAt counts tableau i) c in omega arith
 
 pub blocked-columns : (counts tableau : List ℕ) → sum 8 (λ k. blockedIn (columnAt counts tableau k)) ≡ blockedOn (listed 8 (columnAt counts tableau))
 unfolding blockedOn

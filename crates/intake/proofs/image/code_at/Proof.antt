@@ -2,6 +2,7 @@
 use mathlib.Core.Path.{sym}
 use Prim.Native.Nat.{_/_, _%_}
 use native.Mathlib.Omega.{arith}
+use Rattle.board.specs.Record.{room}
 use Rattle.board.proofs.Tables.{part-code, part-past}
 use borrow.Author.Needs.{needs}
 use Rattle.intake.proofs.image.code_at.Statement.{statement}
@@ -21,19 +22,19 @@ element-copy-out-start c = let p4 = c .before .before .before .before in omega (
 
 add-at : tie.Need-add-at
 add-at c =
-    omega (arith, c .before .before .wide .ensures, c .before .before .before .before .before .pre .0 .within (c .before .before .before .before .before .args .p / 52) (omega arith), c .before .before .before .before .before .good)
+    omega (arith, c .before .before .wide .ensures, c .before .before .before .before .before .pre .0 .within (c .before .before .before .before .before .args .p / room) (omega arith), c .before .before .before .before .before .good)
 
 shared-slice-read-result : tie.Need-shared-slice-read-result
 shared-slice-read-result c =
-    omega (arith, c .before .before .before .wide .ensures, c .before .before .before .before .before .before .pre .0 .within (c .before .before .before .before .before .before .args .p / 52) (omega arith))
+    omega (arith, c .before .before .before .wide .ensures, c .before .before .before .before .before .before .pre .0 .within (c .before .before .before .before .before .before .args .p / room) (omega arith))
 
 returns : tie.Need-returns
 returns c = let p3 = c .before .before .before in let p6 = p3 .before .before .before in
-    sym (part-code (p6 .args .starts .now) (p6 .args .counts .now) (p6 .args .codes .now) (p6 .args .p / 52) (p6 .args .p % 52) (omega (arith, p3 .wide .ensures)))
+    sym (part-code (p6 .args .starts .now) (p6 .args .counts .now) (p6 .args .codes .now) (p6 .args .p / room) (p6 .args .p % room) (omega (arith, p3 .wide .ensures)))
 
 returns-2 : tie.Need-returns-2
 returns-2 c = let p4 = c .before .before .before .before in
-    sym (part-past (p4 .args .starts .now) (p4 .args .counts .now) (p4 .args .codes .now) (p4 .args .p / 52) (p4 .args .p % 52) (omega (arith, c .before .wide .ensures)))
+    sym (part-past (p4 .args .starts .now) (p4 .args .counts .now) (p4 .args .codes .now) (p4 .args .p / room) (p4 .args .p % room) (omega (arith, c .before .wide .ensures)))
 
 pub code-at-spec : {M : Type 1} → statement M
 code-at-spec =

@@ -4,6 +4,7 @@ use Prim.Native.Nat.{_+_, _-_, _*_, _/_, _≤_}
 use lib.Dec.{leb}
 use lib.ListN.{length, getD, drop}
 use native.Mathlib.Omega.{arith}
+use Rattle.board.specs.Record.{room}
 use Rattle.score.specs.Features.{blockedIn}
 use Rattle.score.proofs.Blocking.{by-most, blocked-step, blocked-end}
 use borrow.Author.Needs.{needs}
@@ -11,7 +12,7 @@ use Rattle.score.proofs.measure.blocked_in.Statement.{statement}
 use Rattle.score.proofs.measure.blocked_in.Tie as tie
 
 abbrev Inv-loop : tie.InvT-loop
-Inv-loop column left₀ n₀ k₀ left n k = (k ≤ length column) × (left ≡ length column - k) × (n ≤ 52 * k) × (n + blockedIn (drop k column) ≡ blockedIn column)
+Inv-loop column left₀ n₀ k₀ left n k = (k ≤ length column) × (left ≡ length column - k) × (n ≤ room * k) × (n + blockedIn (drop k column) ≡ blockedIn column)
 
 abbrev μ-loop : tie.MeasureT-loop
 μ-loop column left₀ n₀ k₀ left n k = length column - k
