@@ -34,9 +34,10 @@ no-more : (n state : ℕ) (pack : List ℕ) → n ≡ 0 → dealtFrom n state pa
 unfolding dealtFrom
 no-more n state pack e = ap (λ (m : ℕ). dealtFrom m state pack) e
 
-pub draw-begin : {number : ℕ} {deck : List ℕ} → length deck ≡ 52 → number < 2 ^ 31 → Drawing number deck (listed 52 cardAt) number 0
+pub draw-begin : {number : ℕ} {deck pack : List ℕ} → length deck ≡ 52 → pack ≡ listed 52 cardAt → number < 2 ^ 31 → Drawing number deck pack number 0
 unfolding deckOf
-draw-begin l h = record { within = omega arith; deck52 = l; pack52 = length-listed cardAt 52; small = h; on = refl }
+draw-begin {number} l e h =
+    record { within = omega arith; deck52 = l; pack52 = ap length e ∙ length-listed cardAt 52; small = h; on = ap (dealtFrom 52 number) e }
 
 module _ {number : ℕ} {deck pack : List ℕ} {state dealt : ℕ} (d : Drawing number deck pack state dealt) where
   pub place-below : (draw : ℕ) → dealt < 52 → draw % (52 - dealt) < 52

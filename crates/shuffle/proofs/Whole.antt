@@ -41,8 +41,8 @@ all-dealt x (suc n) state pack h =
     let rest = all-dealt x n (stepped state) (set pack place last) (let l = length-set pack place last in omega arith) in
     let below : place < suc n = mod-lt (drawn (stepped state)) (zero-lt-suc n) in
     let one = one-draw (here x pack) (here x (set pack place last)) n place below
-            (λ k l d. ap (λ (y : ℕ). cond (eqb x y) 1 0) (getD-set-other pack place k last 0 d))
-            (λ l. ap (λ (y : ℕ). cond (eqb x y) 1 0) (getD-set-same pack place last 0 (omega arith))) in
+    (λ k l d. ap (λ (y : ℕ). cond (eqb x y) 1 0) (getD-set-other pack place k last 0 d))
+    (λ l. ap (λ (y : ℕ). cond (eqb x y) 1 0) (getD-set-same pack place last 0 (omega arith))) in
     omega arith
 
 -- what holds of the cards left holds of the cards dealt

@@ -1,13 +1,32 @@
 // The widely published shuffle: the deck of a hand's number.
 ghost use mathlib.Core.Path.{_≡_};
 ghost use Prim.Native.Nat.{_<_, _^_};
+ghost use Rattle.base.specs.Words.{listed};
+ghost use Rattle.card.specs.Pack.{cardAt};
 ghost use Rattle.shuffle.specs.Shuffle.{stepped, drawn, deckOf};
 
-// Ace of clubs, diamonds, hearts, spades, then the twos, and so on.
-const PACK: [u8; 52] = [
-    16, 17, 18, 19, 32, 33, 34, 35, 48, 49, 50, 51, 64, 65, 66, 67, 80, 81, 82, 83, 96, 97, 98, 99, 112, 113, 114, 115, 128, 129, 130, 131,
-    144, 145, 146, 147, 160, 161, 162, 163, 176, 177, 178, 179, 192, 193, 194, 195, 208, 209, 210, 211,
-];
+// The card at a place of the pack: ace of clubs, diamonds, hearts, spades, then the twos, and so on.
+fn card_at(place: usize) -> u8
+    requires { ⌜ place < 52 ⌝ }
+    ensures { λ r. ⌜ r ≡ cardAt place ⌝ }
+{
+    let value = place / 4 + 1;
+    let high = value * 16;
+    let code = high + place % 4;
+    code as u8
+}
+
+fn whole_pack() -> [u8; 52]
+    ensures { λ r. ⌜ r ≡ listed 52 cardAt ⌝ }
+{
+    let mut pack = [0u8; 52];
+    let mut place = 0;
+    while place < 52 {
+        pack[place] = card_at(place);
+        place += 1;
+    }
+    pack
+}
 
 // The state after a step.
 fn step(state: usize) -> usize
@@ -31,7 +50,7 @@ pub fn deck_of(number: usize) -> [u8; 52]
     requires { ⌜ number < 2 ^ 31 ⌝ }
     ensures { λ r. ⌜ r ≡ deckOf number ⌝ }
 {
-    let mut pack = PACK;
+    let mut pack = whole_pack();
     let mut deck = [0u8; 52];
     let mut state = number;
     let mut dealt = 0;

@@ -1,8 +1,6 @@
 -- What `deck_of` leaves to be shown: a card at each turn, and the pack that is left.
 use mathlib.Core.Path.{refl}
 use Prim.Native.Nat.{_-_}
-use Rattle.base.specs.Words.{listed}
-use Rattle.card.specs.Pack.{cardAt}
 use Rattle.shuffle.proofs.Drawing.{Drawing, draw-begin, place-below, draw-next, draw-end}
 use borrow.Author.Needs.{needs}
 use Rattle.shuffle.proofs.deck_of.Statement.{statement}
@@ -14,9 +12,11 @@ Inv-loop number pack₀ deck₀ state₀ dealt₀ pack deck state dealt = Drawin
 abbrev μ-loop : tie.MeasureT-loop
 μ-loop number pack₀ deck₀ state₀ dealt₀ pack deck state dealt = 52 - dealt
 
+whole-pack-requires : tie.Need-whole-pack-requires Inv-loop μ-loop
+whole-pack-requires c κs = search needs
+
 loop-holds : tie.Need-loop-holds Inv-loop μ-loop
-unfolding listed cardAt
-loop-holds c = draw-begin refl (c .pre)
+loop-holds c = draw-begin refl (c .whole-pack .ensures) (c .before .pre)
 
 sub-left : tie.Need-sub-left Inv-loop μ-loop
 sub-left c = search needs
@@ -64,6 +64,7 @@ deck-of-spec =
     (tie.spec
     Inv-loop
     μ-loop
+    whole-pack-requires
     loop-holds
     sub-left
     sub-last
