@@ -34,6 +34,7 @@
  *   22  scratch that holds no node
  *   30  a move that is not allowed or no record of a move, or a kind of move that is none
  *   31  a list over 1,000 bytes or not a multiple of 5
+ *   41  a hand's number outside 1 to 32,000
  *
  * Where several hold, the number is the first in the order that the function's paragraph gives. A refusal changes nothing
  * that was lent; the one exception is said at corbelnib_replay. */
@@ -56,8 +57,9 @@ extern "C" {
 #define CORBELNIB_TOKEN 32
 #define CORBELNIB_FEATURES 7
 
-/* The largest budget of a search. */
+/* The largest budget of a search, and the largest number of a hand. */
 #define CORBELNIB_BUDGET 1000000
+#define CORBELNIB_NUMBER 32000
 
 /* Elements of each part of the scratch that n nodes need. */
 #define CORBELNIB_NODES(n) (3 * (size_t)(n))
@@ -73,6 +75,10 @@ uint8_t corbelnib_read(const uint8_t *image, size_t image_length, uint8_t *board
 /* Deals a deck of 52 codes (place i goes to column i mod 8) and writes the board, 432 bytes, to the start of `board`; bytes
  * beyond stay. Refusals: 16, 13, 14, then 21 if `board` has fewer than 432 bytes. */
 uint8_t corbelnib_deal(const uint8_t *deck, size_t deck_length, uint8_t *board, size_t board_length);
+
+/* Deals the hand of a number, 1 to 32,000, as players know them by the widely published generator, and writes the board, 432
+ * bytes, to the start of `board`; bytes beyond stay. Refusals: 41, then 21 if `board` has fewer than 432 bytes. */
+uint8_t corbelnib_number(size_t number, uint8_t *board, size_t board_length);
 
 /* Says whether a board is well formed: 0, or the first of 12 to 15. Writes nothing. Every function below that takes a board
  * does this itself and refuses with the same number. */

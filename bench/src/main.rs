@@ -12,6 +12,9 @@ mod heap;
 #[path = "../../compare/src/lent.rs"]
 #[allow(dead_code)]
 mod lent;
+#[path = "../../compare/src/numbers.rs"]
+#[allow(dead_code)]
+mod numbers;
 #[path = "../../compare/src/original.rs"]
 mod original;
 #[path = "../../compare/src/ours.rs"]
@@ -19,6 +22,9 @@ mod original;
 mod ours;
 #[path = "../../compare/src/progress.rs"]
 mod progress;
+#[path = "../../compare/src/refusals.rs"]
+#[allow(dead_code)]
+mod refusals;
 #[path = "../../compare/src/words.rs"]
 #[allow(dead_code)]
 mod words;
@@ -26,26 +32,18 @@ mod words;
 use draws::Draws;
 use lent::{Room, Scratch};
 use original::common;
-use original::common::card::Card;
 use original::freecell::board::FreeCellBoard;
 use original::freecell::solver::{self, Judged};
+use refusals::{LIST, MOST_NUMBER, MOST_POPS};
 use std::time::Instant;
 
 const USAGE: &str = include_str!("../usage.txt");
-const MOST_POPS: usize = 1_000_000;
-const LIST: usize = 1_000;
 
-// The deals that players know by number, 1 to 32,000; the library has none of this yet.
-fn numbered(number: usize) -> Vec<Card> {
-    let mut pack: Vec<u8> = (0..52u8).map(|i| (i / 4 + 1) * 16 + i % 4).collect();
-    let mut state = number as u64;
-    let mut deck = Vec::new();
-    while !pack.is_empty() {
-        state = (214_013 * state + 2_531_011) % (1 << 31);
-        let place = (state >> 16) as usize % pack.len();
-        deck.extend(codes::card(pack.swap_remove(place)));
-    }
-    deck
+// The board of a deal that players know by number, as the library hands it back.
+fn board_of(number: usize) -> FreeCellBoard {
+    let mut board = [0; codes::BOARD];
+    assert_eq!(ours::number(number, &mut board), 0);
+    refusals::board(&board).expect("a board")
 }
 
 // One board judged by both.
@@ -196,7 +194,7 @@ fn measure([first, last, budget, long]: [usize; 4]) {
     let mut again = Vec::new();
     let all = progress::told("deals", last - first + 1, |progress| {
         let judge = |deal: usize| {
-            let board = solver::deal(&numbered(deal)).unwrap();
+            let board = board_of(deal);
             let came = both(&board, budget);
             print_line(deal, &came);
             if came.number == 3 && again.len() < long {
@@ -227,8 +225,11 @@ fn main() {
     ];
     let words = words::asked(USAGE, &[], &names);
     let numbers @ [first, last, budget, _] = names.map(|(name, _)| words.number(name));
-    if first > last || budget > MOST_POPS {
-        words::wrong(USAGE, "first is at most last, budget at most 1000000");
+    if first == 0 || first > last || last > MOST_NUMBER || budget > MOST_POPS {
+        words::wrong(
+            USAGE,
+            "first is at least 1 and at most last, last at most 32000, budget at most 1000000",
+        );
     }
     println!("deals {first} to {last}, budget {budget}, no partial. Our scratch has room for just the nodes needed and is full of");
     println!("rubbish before each call: nothing is cleared first, the clearing that the judge does is part of its time. A search under");

@@ -16,6 +16,10 @@ pub fn deal(deck: &[u8], length: usize) -> Asked<Vec<u8>> {
     refusals::deal(deck).and_then(|board| refusals::room(bytes(&board), length, BOARD))
 }
 
+pub fn number(number: usize, length: usize) -> Asked<Vec<u8>> {
+    refusals::number(number).and_then(|board| refusals::room(bytes(&board), length, BOARD))
+}
+
 pub fn play(board: &[u8], record: &[u8], length: usize) -> Asked<Vec<u8>> {
     refusals::board(board)
         .and_then(|board| refusals::step(&board, record))

@@ -3,7 +3,7 @@
 use crate::answers::{self, Settings};
 use crate::codes::{hex, records};
 use crate::draws::Draws;
-use crate::lent::{number, Room, Rubbish, Scratch};
+use crate::lent::{self, Room, Rubbish, Scratch};
 use crate::original::freecell::solver::Judged;
 use crate::ours;
 use crate::refusals::{self, Asked};
@@ -100,6 +100,13 @@ pub fn deal(draws: &mut Draws, deck: &[u8], length: usize) -> Told {
     told("deal", came, &answers::deal(deck, length), &room)
 }
 
+pub fn number(draws: &mut Draws, number: usize, length: usize) -> Told {
+    let mut room = Room::new(draws, length);
+    let came = ours::number(number, room.lent());
+    let what = format!("number {number}");
+    told(&what, came, &answers::number(number, length), &room)
+}
+
 pub fn play(draws: &mut Draws, board: &[u8], record: &[u8], length: usize) -> Told {
     let mut room = Room::new(draws, length);
     let came = ours::play(board, record, room.lent());
@@ -108,7 +115,7 @@ pub fn play(draws: &mut Draws, board: &[u8], record: &[u8], length: usize) -> To
 
 pub fn replay(draws: &mut Draws, board: &[u8], list: &[u8], length: usize) -> Told {
     let mut room = Room::new(draws, length);
-    let mut played = number(draws);
+    let mut played = lent::number(draws);
     let came = ours::replay(board, list, room.lent(), &mut played.lent()[0]);
     let (told, given) = answers::replay(board, list, length);
     same("replay", came, told)?;
@@ -118,7 +125,7 @@ pub fn replay(draws: &mut Draws, board: &[u8], list: &[u8], length: usize) -> To
 
 pub fn moves(draws: &mut Draws, board: &[u8], kind: u8, length: usize) -> Told {
     let mut room = Room::new(draws, length);
-    let mut count = number(draws);
+    let mut count = lent::number(draws);
     let came = ours::moves(board, kind, room.lent(), &mut count.lent()[0]);
     let asked = answers::moves(board, kind, length);
     let what = format!("moves of kind {kind}");
@@ -127,7 +134,7 @@ pub fn moves(draws: &mut Draws, board: &[u8], kind: u8, length: usize) -> Told {
 
 pub fn candidates(draws: &mut Draws, board: &[u8], length: usize) -> Told {
     let mut room = Room::new(draws, length);
-    let mut count = number(draws);
+    let mut count = lent::number(draws);
     let came = ours::candidates(board, room.lent(), &mut count.lent()[0]);
     let asked = answers::candidates(board, length);
     counted("candidates", came, &asked, &room, &count)
@@ -135,14 +142,14 @@ pub fn candidates(draws: &mut Draws, board: &[u8], length: usize) -> Told {
 
 pub fn priority(draws: &mut Draws, board: &[u8], record: &[u8]) -> Told {
     let asked = answers::priority(board, record).map(|priority| vec![priority]);
-    let mut priority = number(draws);
+    let mut priority = lent::number(draws);
     let came = ours::priority(board, record, &mut priority.lent()[0]);
     told("priority", came, &asked, &priority)
 }
 
 pub fn chain(draws: &mut Draws, board: &[u8], length: usize) -> Told {
     let mut room = Room::new(draws, length);
-    let mut count = number(draws);
+    let mut count = lent::number(draws);
     let came = ours::chain(board, room.lent(), &mut count.lent()[0]);
     let asked = answers::chain(board, length);
     counted("chain", came, &asked, &room, &count)
@@ -156,21 +163,21 @@ pub fn features(draws: &mut Draws, board: &[u8], length: usize) -> Told {
 
 pub fn scores(draws: &mut Draws, board: &[u8]) -> Told {
     let asked = answers::scores(board).map(|(heuristic, progress)| (vec![heuristic], progress));
-    let (mut heuristic, mut progress) = (number(draws), number(draws));
+    let (mut heuristic, mut progress) = (lent::number(draws), lent::number(draws));
     let came = ours::scores(board, &mut heuristic.lent()[0], &mut progress.lent()[0]);
     counted("scores", came, &asked, &heuristic, &progress)
 }
 
 pub fn signature(draws: &mut Draws, board: &[u8]) -> Told {
     let asked = answers::signature(board).map(|signature| vec![signature]);
-    let mut signature = number(draws);
+    let mut signature = lent::number(draws);
     let came = ours::signature(board, &mut signature.lent()[0]);
     told("signature", came, &asked, &signature)
 }
 
 pub fn token(draws: &mut Draws, board: &[u8], length: usize) -> Told {
     let mut room = Room::new(draws, length);
-    let mut count = number(draws);
+    let mut count = lent::number(draws);
     let came = ours::token(board, room.lent(), &mut count.lent()[0]);
     let asked = answers::token(board, length);
     counted("token", came, &asked, &room, &count)
@@ -191,7 +198,7 @@ pub fn judge(draws: &mut Draws, board: &[u8], settings: Settings) -> Told {
 pub fn judged(draws: &mut Draws, board: &[u8], settings: Settings, asked: &Asked<Judged>) -> Told {
     let mut scratch = Scratch::new(draws, settings.lengths);
     let mut list = Room::new(draws, settings.list);
-    let (mut pops, mut moves) = (number(draws), number(draws));
+    let (mut pops, mut moves) = (lent::number(draws), lent::number(draws));
     let came = ours::judge(
         board,
         settings.budget,

@@ -7,12 +7,12 @@ use crate::draws::Draws;
 use crate::original::common::card::{Card, Suit};
 use crate::original::freecell::board::FreeCellBoard;
 use crate::original::freecell::solver;
-use crate::refusals::{self, Asked, FEATURES, LIST, MOST_POPS, RECORDS, TOKEN};
+use crate::refusals::{self, Asked, FEATURES, LIST, MOST_NUMBER, MOST_POPS, RECORDS, TOKEN};
 use crate::sheet::Sheet;
 use crate::tasks::Run;
 use std::collections::BTreeMap;
 
-const NAMES: [&str; 15] = [
+const NAMES: [&str; 16] = [
     "examine",
     "read",
     "deal",
@@ -28,6 +28,7 @@ const NAMES: [&str; 15] = [
     "features",
     "capacity",
     "judge",
+    "number",
 ];
 // what lent memory holds before a call, and how much of each the program has
 const MARK: u8 = 165;
@@ -50,7 +51,7 @@ struct Call {
 // The least room that a function takes.
 fn least(function: &str) -> usize {
     match function {
-        "read" | "deal" | "move" | "replay" | "chain" => BOARD,
+        "read" | "deal" | "number" | "move" | "replay" | "chain" => BOARD,
         "moves" | "candidates" => RECORDS,
         "token" => TOKEN,
         "features" => FEATURES,
@@ -140,6 +141,7 @@ impl Call {
             "examine" => handed(refusals::board(board).map(|_| Vec::new())),
             "read" => handed(answers::read(bytes, room)),
             "deal" => handed(answers::deal(bytes, room)),
+            "number" => handed(answers::number(joined(&bytes[..8]), room)),
             "move" => handed(answers::play(board, bytes, room)),
             "replay" => {
                 let (number, given) = answers::replay(board, bytes, room);
@@ -167,7 +169,7 @@ impl Call {
             }
             "capacity" => {
                 let scale = if self.kind == 0 { 1 } else { 65_536 };
-                let lengths = [0, 3, 6, 9].map(|at| scale * triple(&bytes[at..at + 3]));
+                let lengths = [0, 3, 6, 9].map(|at| scale * joined(&bytes[at..at + 3]));
                 (numbers([refusals::capacity(lengths)]), Vec::new())
             }
             _ => self.judged(board),
@@ -180,7 +182,7 @@ impl Call {
         let asked = answers::judge(
             board,
             Settings {
-                budget: triple(&self.bytes),
+                budget: joined(&self.bytes[..3]),
                 partial: self.kind,
                 lengths,
                 list: self.room,
@@ -225,8 +227,9 @@ impl Call {
     }
 }
 
-fn triple(bytes: &[u8]) -> usize {
-    bytes[..3].iter().fold(0, |n, &b| n * 256 + usize::from(b))
+// Bytes as a number.
+fn joined(bytes: &[u8]) -> usize {
+    bytes.iter().fold(0, |n, &b| n * 256 + usize::from(b))
 }
 
 // With room that is just enough, more, and one too little.
@@ -345,7 +348,7 @@ fn damaged(board: &FreeCellBoard) -> Vec<Call> {
     let mut calls = Vec::new();
     for function in NAMES {
         let given: &[u8] = match function {
-            "read" | "deal" | "capacity" => continue,
+            "read" | "deal" | "number" | "capacity" => continue,
             "move" | "priority" | "replay" => &record,
             "judge" => &[0, 0, 2, 6, 2, 4, 4],
             _ => &[],
@@ -435,6 +438,25 @@ fn number(n: usize) -> [u8; 3] {
     [high, middle, low]
 }
 
+// Hands by number, and numbers that are none: 41, before 21.
+fn hands(board: &FreeCellBoard) -> Vec<Call> {
+    let numbers = [
+        1,
+        617,
+        MOST_NUMBER,
+        0,
+        MOST_NUMBER + 1,
+        (1 << 31) + 617,
+        (1 << 32) + 1,
+        usize::MAX,
+    ];
+    let all = numbers.iter().flat_map(|number| {
+        let hand = call("number", board).bytes(&number.to_be_bytes());
+        [in_rooms(hand.clone()), vec![hand.room(0)]].concat()
+    });
+    all.collect()
+}
+
 // Answers, 23, and each refusal of settings before the next one.
 fn judgings(boards: &[FreeCellBoard]) -> Vec<Call> {
     let ask = |board: &FreeCellBoard, budget: usize, partial: u8, scratch: [u8; 4]| {
@@ -489,6 +511,7 @@ fn all_calls(run: &Run) -> Vec<Call> {
     calls.extend(decks(&mut draws, &boards[0]));
     calls.extend(capacities(&boards[0]));
     calls.extend(judgings(&boards));
+    calls.extend(hands(&boards[0]));
     calls
 }
 

@@ -6,12 +6,13 @@ use crate::boards::{self, played, shuffled};
 use crate::codes::{self, counted, image, records, BOARD, COLUMN, EMPTY};
 use crate::draws::Draws;
 use crate::original::common::card::{Card, Suit};
-use crate::refusals::{self, FEATURES, LIST, MOST_POPS, RECORDS, TOKEN};
+use crate::refusals::{self, FEATURES, LIST, MOST_NUMBER, MOST_POPS, RECORDS, TOKEN};
 
-pub const FUNCTIONS: [&str; 15] = [
+pub const FUNCTIONS: [&str; 16] = [
     "examine",
     "read",
     "deal",
+    "number",
     "move",
     "replay",
     "moves",
@@ -36,6 +37,10 @@ pub fn compare(draws: &mut Draws, function: usize) -> Told {
         "deal" => {
             let (deck, length) = (deck(draws), room(draws, BOARD));
             asks::deal(draws, &deck, length).map_err(|found| found.on(&[&deck]))
+        }
+        "number" => {
+            let (number, length) = (number(draws), room(draws, BOARD));
+            asks::number(draws, number, length)
         }
         "capacity" => asks::capacity(lengths(draws, 1 << 33)),
         "move" | "replay" | "priority" => by_moves(draws, FUNCTIONS[function]),
@@ -235,6 +240,28 @@ fn deck(draws: &mut Draws) -> Vec<u8> {
         deck.resize(length, 0x10);
     }
     deck
+}
+
+// A number, in two of three cases no hand's.
+fn number(draws: &mut Draws) -> usize {
+    let number = 1 + draws.below(MOST_NUMBER);
+    if draws.once_in(3) {
+        return number;
+    }
+    no_number(draws, number)
+}
+
+// Numbers that are no hand's: some of them end as a hand's does, for who looks at 31 or 32 bits only.
+pub fn no_number(draws: &mut Draws, number: usize) -> usize {
+    match draws.below(7) {
+        0 => 0,
+        1 => MOST_NUMBER + 1,
+        2 => MOST_NUMBER + number,
+        3 => (1 << 31) + number,
+        4 => (1 << 32) + number,
+        5 => usize::MAX,
+        _ => draws.word() as usize,
+    }
 }
 
 // A list of moves that can be played, if the board can be.

@@ -11,6 +11,8 @@ mod draws;
 mod gauge;
 mod judging;
 mod lent;
+mod listings;
+mod numbers;
 mod oracle_boards;
 mod oracle_moves;
 mod oracle_scores;
@@ -36,17 +38,24 @@ use tasks::{done, Run};
 const USAGE: &str = include_str!("../usage.txt");
 
 // What is compared if nothing is selected, each work with the number of its tasks; a task of judge and of long is a board with
-// both flags at each budget. The tasks of deep are the 16 boards of deep-boards.txt, and then climbs.
-const COMPARED: [(&str, usize); 6] = [
+// both flags at each budget. The tasks of deep are the 16 boards of deep-boards.txt, and then climbs. A task of numbers is a
+// hand's number.
+const COMPARED: [(&str, usize); 7] = [
     ("boards", 100_000),
     ("judge", 2_000),
     ("long", 20),
     ("room", 500),
     ("deep", 20),
+    ("numbers", 32_000),
     ("damage", 100_000),
 ];
 // What writes the gate's samples.
-const WRITTEN: [(&str, usize); 3] = [("sample", 40), ("calls", 1), ("oracles", 5)];
+const WRITTEN: [(&str, usize); 4] = [
+    ("sample", 40),
+    ("calls", 1),
+    ("oracles", 5),
+    ("listings", 1),
+];
 
 fn main() {
     let cores = std::thread::available_parallelism().map_or(1, |n| n.get());

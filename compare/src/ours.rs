@@ -1,4 +1,4 @@
-// Our library: the C functions of crate `cabinet`, and the same with slices. A slice crosses as its start and its length.
+// Our library: the C functions of crate `corbelnib`, and the same with slices. A slice crosses as its start and its length.
 use crate::lent::Scratch;
 
 mod c {
@@ -16,6 +16,7 @@ mod c {
             board: *mut u8,
             board_len: usize,
         ) -> u8;
+        pub fn corbelnib_number(number: usize, board: *mut u8, board_len: usize) -> u8;
         pub fn corbelnib_move(
             board: *const u8,
             board_len: usize,
@@ -114,6 +115,10 @@ pub fn read(image: &[u8], board: &mut [u8]) -> u8 {
 
 pub fn deal(deck: &[u8], board: &mut [u8]) -> u8 {
     unsafe { c::corbelnib_deal(deck.as_ptr(), deck.len(), board.as_mut_ptr(), board.len()) }
+}
+
+pub fn number(number: usize, board: &mut [u8]) -> u8 {
+    unsafe { c::corbelnib_number(number, board.as_mut_ptr(), board.len()) }
 }
 
 pub fn play(board: &[u8], record: &[u8], after: &mut [u8]) -> u8 {

@@ -7,7 +7,7 @@ use crate::original::freecell::board::FreeCellBoard;
 use crate::refusals::{FEATURES, RECORDS, TOKEN};
 
 // Room that is just enough, or more.
-fn enough(draws: &mut Draws, least: usize) -> usize {
+pub fn enough(draws: &mut Draws, least: usize) -> usize {
     least + draws.one_of(&[0, 0, 1, 100])
 }
 

@@ -1,6 +1,7 @@
 // The scope's refusals (docs/SCOPE.md), written from the customer's text alone: what may be asked, and else the number that
 // comes first in its order. What is not refused is the original's to answer.
 use crate::codes::{self, BOARD, COLUMN, EMPTY};
+use crate::numbers;
 use crate::original::common::card::{Card, Suit};
 use crate::original::freecell::board::{FreeCellBoard, FreeCellMove};
 use crate::original::freecell::solver;
@@ -12,6 +13,7 @@ pub const TOKEN: usize = 32;
 pub const FEATURES: usize = 7;
 pub const LIST: usize = 1000;
 pub const MOST_POPS: usize = 1_000_000;
+pub const MOST_NUMBER: usize = 32_000;
 
 // 12 to 15 for a board of 432 bytes; another length is 12.
 pub fn board(bytes: &[u8]) -> Asked<FreeCellBoard> {
@@ -110,6 +112,14 @@ pub fn deal(deck: &[u8]) -> Asked<FreeCellBoard> {
         return Err(14);
     }
     Ok(solver::deal(&cards).expect("52 cards"))
+}
+
+// 41 for a number that is no hand's.
+pub fn number(number: usize) -> Asked<FreeCellBoard> {
+    if number == 0 || number > MOST_NUMBER {
+        return Err(41);
+    }
+    Ok(solver::deal(&numbers::deck(number)).expect("52 cards"))
 }
 
 // 21 for room that is too small.

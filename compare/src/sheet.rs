@@ -54,8 +54,12 @@ impl Sheet {
     pub fn write(&self, program: &str) -> Result<()> {
         println!("  {} bytes of input", self.input.len());
         assert!(self.input.len() < INPUT);
-        let folder = folder(program);
-        std::fs::write(folder.join("stdin"), &self.input)?;
-        std::fs::write(folder.join("stdout"), &self.output)
+        std::fs::write(folder(program).join("stdin"), &self.input)?;
+        write_output(program, &self.output)
     }
+}
+
+// Of a program that reads nothing this is all.
+pub fn write_output(program: &str, output: &str) -> Result<()> {
+    std::fs::write(folder(program).join("stdout"), output)
 }

@@ -1,11 +1,12 @@
 // One task of each work, and what it reports of a difference.
-use crate::asks::Difference;
+use crate::asks::{self, Difference};
+use crate::codes::BOARD;
 use crate::draws::Draws;
 use crate::original::freecell::board::FreeCellBoard;
 use crate::progress;
 use crate::work::{self, Report, Tally};
 use crate::{boards, calls, codes, damage, deep, judging, plain, refusals, sample, shrink};
-use crate::{oracle_boards, oracle_moves, oracle_scores, oracle_signatures, texts};
+use crate::{listings, oracle_boards, oracle_moves, oracle_scores, oracle_signatures, texts};
 
 pub struct Run {
     pub seed: u64,
@@ -26,6 +27,12 @@ fn reported(board: &FreeCellBoard, found: &Difference, asked: &str) -> Report {
     let Difference { what, ours, theirs } = found;
     let board = codes::drawn(board);
     format!("{what}{asked}\n  ours   {ours}\n  theirs {theirs}\nthe smallest board found\n{board}")
+}
+
+// The same where there is no board to report.
+fn without_board(found: Difference) -> Report {
+    let Difference { what, ours, theirs } = found;
+    format!("{what}\n  ours   {ours}\n  theirs {theirs}")
 }
 
 // Everything but judge.
@@ -159,6 +166,25 @@ fn on_deep(run: &Run, task: usize, tally: &mut Tally) -> Result<(), Report> {
     Ok(())
 }
 
+// The hands of all numbers in turn, and with each a number that is none, or its own with too little room.
+fn on_number(run: &Run, task: usize, tally: &mut Tally) -> Result<(), Report> {
+    let mut draws = run.draws(8, task);
+    let number = task + 1;
+    let enough = plain::enough(&mut draws, BOARD);
+    let little = draws.one_of(&[BOARD - 1, 0]);
+    let refused = if draws.once_in(4) {
+        (number, little)
+    } else {
+        let length = draws.one_of(&[enough, little]);
+        (damage::no_number(&mut draws, number), length)
+    };
+    for (number, length) in [(number, enough), refused] {
+        let came = asks::number(&mut draws, number, length).map_err(without_board)?;
+        tally.count("number", format!("{came}:"), 1);
+    }
+    Ok(())
+}
+
 // Damaged inputs to a function, until one is refused.
 fn on_damage(run: &Run, task: usize, tally: &mut Tally) -> Result<(), Report> {
     let mut draws = run.draws(4, task);
@@ -171,10 +197,7 @@ fn on_damage(run: &Run, task: usize, tally: &mut Tally) -> Result<(), Report> {
                 return Ok(());
             }
             Ok(_) => tally.count(name, "not refused, the same answer:", 1),
-            Err(found) => {
-                let Difference { what, ours, theirs } = found;
-                return Err(format!("{what}\n  ours   {ours}\n  theirs {theirs}"));
-            }
+            Err(found) => return Err(without_board(found)),
         }
     }
 }
@@ -209,10 +232,14 @@ pub fn done(run: &Run, name: &'static str, tasks: usize) -> Result<(), Report> {
         }),
         "room" => work::run(name, all, threads, |task, tally| on_room(run, task, tally)),
         "deep" => work::run(name, all, threads, |task, tally| on_deep(run, task, tally)),
+        "numbers" => work::run(name, all, threads, |task, tally| {
+            on_number(run, task, tally)
+        }),
         "damage" => work::run(name, all, threads, |task, tally| {
             on_damage(run, task, tally)
         }),
         "calls" => written(name, || calls::write(run)),
+        "listings" => written(name, listings::write),
         "sample" => written(name, || sample::write(run, tasks)),
         _ => progress::told(name, ORACLES.len(), |progress| {
             ORACLES.into_iter().try_for_each(|(program, write)| {

@@ -52,6 +52,21 @@ sum-one f (suc n) j l h = here-or-before (sum-one f n j) (ℕ-discrete j n)
     here-or-before before (yes e) = omega (arith, ap f e, sum-zero f n (λ k m. h k (omega arith) (omega arith)))
     here-or-before before (no e) = omega (arith, before (omega arith) (λ k m q. h k (omega arith) q), h n (omega arith) (λ q. e (sym q)))
 
+-- a sum of which one term changes
+pub sum-changed : (f g : ℕ → ℕ) (n j : ℕ) → j < n → ((k : ℕ) → k < n → (k ≡ j → ⊥) → f k ≡ g k) → sum n f + g j ≡ sum n g + f j
+unfolding sum
+sum-changed f g zero j h e = absurd (not-suc-le-zero h)
+sum-changed f g (suc n) j h e = here-or-before (sum-changed f g n j) (ℕ-discrete j n)
+  where
+    here-or-before : (j < n → ((k : ℕ) → k < n → (k ≡ j → ⊥) → f k ≡ g k) → sum n f + g j ≡ sum n g + f j) → Dec (j ≡ n)
+        → sum n f + f n + g j ≡ sum n g + g n + f j
+    here-or-before before (yes q) =
+        let s = sum-same f g n (λ k l. e k (omega arith) (omega arith)) in
+        omega (arith, ap f q, ap g q)
+    here-or-before before (no d) =
+        let b = before (omega arith) (λ k l c. e k (omega arith) c) in
+        omega (arith, e n (omega arith) (λ q. d (sym q)))
+
 -- a term is part of its sum
 pub sum-part : (f : ℕ → ℕ) (n j : ℕ) → j < n → f j ≤ sum n f
 unfolding sum

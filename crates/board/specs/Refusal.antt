@@ -22,7 +22,7 @@ numberOf LittleRoom = 21
 numberOf NoNode = 22
 numberOf OutOfRange = 30
 numberOf WrongList = 31
--- nothing gives these yet: they are the requests'
+-- these are the requests' (SCOPE.md says which have landed)
 numberOf Unreachable = 17
 numberOf NoGame = 18
 numberOf SourceEmpty = 33

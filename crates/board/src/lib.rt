@@ -20,7 +20,7 @@ pub struct Board {
     pub tableau: [u8; CODES],
 }
 
-// Why something is refused; specs/Refusal.antt has SCOPE.md's number for each. Nothing gives those after the line yet.
+// Why something is refused; specs/Refusal.antt has SCOPE.md's number for each.
 pub enum Refusal {
     WrongLength,
     WrongVersion,

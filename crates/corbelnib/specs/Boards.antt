@@ -8,6 +8,7 @@ use Rattle.board.specs.Record.{examined, shown, boardOf}
 use Rattle.board.specs.declared.Board.{Board}
 use Rattle.intake.specs.Image.{imageRead}
 use Rattle.intake.specs.Deal.{dealAsked}
+use Rattle.intake.specs.Number.{numberAsked}
 use Rattle.replay.specs.Step.{moveMade}
 use Rattle.replay.specs.Line.{Ending, lineFrom, recordsIn, isLine}
 use Rattle.replay.specs.Played.{afterMoves}
@@ -27,6 +28,10 @@ readLeft image room = boardLeft (imageRead image) room
 -- a board from a deck
 unfoldable pub dealLeft : List ℕ → List ℕ → Left (List ℕ)
 dealLeft deck room = boardLeft (dealAsked deck) room
+
+-- the hand of a number
+unfoldable pub numberLeft : ℕ → List ℕ → Left (List ℕ)
+numberLeft n room = boardLeft (numberAsked n) room
 
 -- the board after the move of a record
 unfoldable pub moveLeft : List ℕ → List ℕ → List ℕ → Left (List ℕ)

@@ -4,7 +4,7 @@ ghost use mathlib.Core.Path.{_≡_};
 ghost use Rattle.board.specs.Record.{examined};
 ghost use Rattle.solver.specs.Capacity.{capacityOf};
 ghost use Rattle.corbelnib.specs.Crossing.{left, told, asked};
-ghost use Rattle.corbelnib.specs.Boards.{readLeft, dealLeft, moveLeft, replayLeft, chainLeft};
+ghost use Rattle.corbelnib.specs.Boards.{readLeft, dealLeft, numberLeft, moveLeft, replayLeft, chainLeft};
 ghost use Rattle.corbelnib.specs.Lists.{candidatesLeft, movesLeft, tokenLeft};
 ghost use Rattle.corbelnib.specs.Values.{signatureLeft, priorityLeft, scoresLeft, featuresLeft};
 ghost use Rattle.corbelnib.specs.Judged.{leaves, judgeLeft};
@@ -50,6 +50,17 @@ pub extern "C" fn corbelnib_deal(deck: &[u8], board: &mut [u8]) -> u8
     ensures { λ r. ⌜ left r (now (board .exit)) ≡ dealLeft (now (deck .entry)) (now (board .entry)) ⌝ }
 {
     let dealt = intake::deal::deal(deck);
+    let said = dealt.said;
+    let b = dealt.board;
+    hand::board(said, b, board)
+}
+
+// The board of a hand's number: 41, 21.
+#[no_mangle]
+pub extern "C" fn corbelnib_number(number: usize, board: &mut [u8]) -> u8
+    ensures { λ r. ⌜ left r (now (board .exit)) ≡ numberLeft number (now (board .entry)) ⌝ }
+{
+    let dealt = intake::number::hand(number);
     let said = dealt.said;
     let b = dealt.board;
     hand::board(said, b, board)

@@ -18,6 +18,7 @@ use Rattle.board.specs.Record.{examined, shown}
 use Rattle.board.specs.declared.Board.{Board}
 use Rattle.intake.specs.Image.{imageRead}
 use Rattle.intake.specs.Deal.{dealAsked}
+use Rattle.intake.specs.Number.{isNumber, numberAsked}
 use Rattle.moves.specs.Record.{moveAsked}
 use Rattle.moves.specs.declared.Move.{Move}
 use Rattle.replay.specs.Step.{stepped, moveMade}
@@ -36,11 +37,11 @@ use Rattle.solver.specs.Told as solver
 use Rattle.solver.proofs.Calls.{answer-clears, T1-none}
 use Rattle.corbelnib.specs.Wire.{boardRoom, boardIn}
 use Rattle.corbelnib.specs.Crossing.{left, told, asked}
-use Rattle.corbelnib.specs.Boards.{boardLeft, readLeft, dealLeft, moveLeft, lineLeft, replayLeft, chained, chainLeft}
+use Rattle.corbelnib.specs.Boards.{boardLeft, readLeft, dealLeft, numberLeft, moveLeft, lineLeft, replayLeft, chained, chainLeft}
 use Rattle.corbelnib.specs.Lists.{listLeft, candidatesLeft, wayAsked, foundBy, movesLeft, textLeft, tokenLeft}
 use Rattle.corbelnib.specs.Values.{featureRoom, signatureLeft, priorityLeft, scoresLeft, numbersLeft, featuresLeft}
 use Rattle.corbelnib.specs.Judged.{isAnswer}
-use Rattle.demands.specs.Calls.{Entry, examine, read, deal, move, replay, chain, moves, candidates, token, priority, scores, signature, features, capacity, judge}
+use Rattle.demands.specs.Calls.{Entry, examine, read, deal, number, move, replay, chain, moves, candidates, token, priority, scores, signature, features, capacity, judge}
 use Rattle.demands.specs.Calls.{boundary, Call, promise}
 use Rattle.demands.specs.Demand1.{isIn, hands, refusals, placeOf, Examined, Cleared, Demand1}
 use Rattle.demands.proofs.Refusing.{Refuses, by-test, asked-refuses, fine-refuses, board-refuses, image-refuses, deck-refuses, step-refuses, priority-refuses}
@@ -98,7 +99,7 @@ way-refuses ns h t kind =
 
 -- ---- the functions, one by one
 
-abbrev Kept : (e : Entry) → Call e → Type 0
+abbrev pub Kept : (e : Entry) → Call e → Type 0
 Kept e c = Keeps (hands e) (refusals e) (Examined e c) (c .before) (promise e (c .input) (c .before))
 
 examine-keeps : (c : Call examine) → Kept examine c
@@ -122,6 +123,12 @@ unfolding dealLeft boardLeft all
 deal-keeps c =
     room-keeps refl boardRoom (length (c .before)) (dealAsked (c .input)) _ refl (deck-refuses (refusals deal) refl refl refl (c .input))
     (λ b e. (refl, record { board = b; deals = e }))
+
+pub number-keeps : (c : Call number) → Kept number c
+unfolding numberLeft boardLeft numberAsked all
+number-keeps c =
+    room-keeps refl boardRoom (length (c .before)) (numberAsked (c .input)) _ refl (by-test (refusals number) (isNumber (c .input)) 41 (given _) refl tt)
+    (λ b e. (refl, given-by (isNumber (c .input)) 41 _ e .0))
 
 move-keeps : (c : Call move) → Kept move c
 unfolding moveLeft boardLeft moveMade all
@@ -208,6 +215,7 @@ every-keeps : (e : Entry) (c : Call e) → Kept e c
 every-keeps examine c = examine-keeps c
 every-keeps read c = read-keeps c
 every-keeps deal c = deal-keeps c
+every-keeps number c = number-keeps c
 every-keeps move c = move-keeps c
 every-keeps replay c = replay-keeps c
 every-keeps chain c = chain-keeps c
@@ -228,6 +236,7 @@ unfolding boundary
 listed-at examine = refl
 listed-at read = refl
 listed-at deal = refl
+listed-at number = refl
 listed-at move = refl
 listed-at replay = refl
 listed-at chain = refl
@@ -241,7 +250,7 @@ listed-at features = refl
 listed-at capacity = refl
 listed-at judge = refl
 
-listed-all : length boundary ≡ 15
+listed-all : length boundary ≡ 16
 unfolding boundary
 listed-all = refl
 
@@ -267,7 +276,7 @@ pub demand1 : Demand1
 demand1 =
     record {
       oneEnd = λ x y p q. let s = same-end x y p q in record { number = ap (λ l. l .number) s; after = ap (λ l. l .places) s };
-      fifteen = listed-all;
+      many = listed-all;
       all = listed-at;
       examines = λ {e} c. kept e c (every-keeps e c) .examines;
       numbered = λ {e} c. kept e c (every-keeps e c) .numbered;

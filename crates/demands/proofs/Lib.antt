@@ -1,4 +1,4 @@
--- The three demands hold: `demand1`, `demand2`, `demand3`.
+-- The three demands hold, `demand1`, `demand2`, `demand3`, and what the requests add: `handsByNumber`.
 pub mod Examples
 pub mod Refusing
 pub mod Crossing
@@ -8,3 +8,4 @@ pub mod Replaying
 pub mod Demand1
 pub mod Demand2
 pub mod Demand3
+pub mod HandsByNumber

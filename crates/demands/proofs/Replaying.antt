@@ -75,7 +75,7 @@ module _ (t : Table) (f : Fair t) (room : List ℕ) where
   laid-is : laid ≡ wire.bytesOf (boardOf t)
   laid-is = over-first (wire.bytesOf (boardOf t)) room boardRoom (returning.bytes-long (boardOf t) (sound-sized record-sound))
 
-  laid-board : boardIn laid ≡ boardOf t
+  pub laid-board : boardIn laid ≡ boardOf t
   laid-board = ap boardIn laid-is ∙ returning.board-back (boardOf t) (sound-sized record-sound)
 
   pub laid-table : tableIn laid ≡ t

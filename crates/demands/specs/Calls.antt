@@ -11,7 +11,7 @@ use Rattle.solver.specs.Capacity.{capacityOf}
 use Rattle.solver.specs.Searched.{Outcome}
 use Rattle.corbelnib.specs.Wire.{boardRoom, boardIn}
 use Rattle.corbelnib.specs.Crossing.{Left, left, told, asked}
-use Rattle.corbelnib.specs.Boards.{readLeft, dealLeft, moveLeft, replayLeft, chainLeft}
+use Rattle.corbelnib.specs.Boards.{readLeft, dealLeft, numberLeft, moveLeft, replayLeft, chainLeft}
 use Rattle.corbelnib.specs.Lists.{movesLeft, candidatesLeft, tokenLeft}
 use Rattle.corbelnib.specs.Values.{priorityLeft, scoresLeft, signatureLeft, featuresLeft}
 use Rattle.corbelnib.specs.Judged.{judgeLeft}
@@ -21,6 +21,7 @@ pub data Entry : Type 0 where
   examine : Entry
   read : Entry
   deal : Entry
+  number : Entry
   move : Entry
   replay : Entry
   chain : Entry
@@ -37,7 +38,7 @@ pub data Entry : Type 0 where
 -- all of them (tools/boundary.sh holds this list against the code and the header)
 unfoldable pub boundary : List Entry
 boundary =
-    examine ∷ read ∷ deal ∷ move ∷ replay ∷ chain ∷ moves ∷ candidates ∷ token ∷ priority ∷ scores ∷ signature ∷ features ∷ capacity ∷ judge ∷ []
+    examine ∷ read ∷ deal ∷ number ∷ move ∷ replay ∷ chain ∷ moves ∷ candidates ∷ token ∷ priority ∷ scores ∷ signature ∷ features ∷ capacity ∷ judge ∷ []
 
 -- ---- what goes in, and what is lent
 
@@ -57,11 +58,12 @@ pub record Lent : Type 0 where
   pub pops : ℕ
   pub moves : ℕ
 
--- a board, an image or a deck; a board and a record or a list; a board and a kind; four lengths; a question
+-- a board, an image or a deck; a number; a board and a record or a list; a board and a kind; four lengths; a question
 abbrev pub In : Entry → Type 0
 In examine = List ℕ
 In read = List ℕ
 In deal = List ℕ
+In number = ℕ
 In move = List ℕ × List ℕ
 In replay = List ℕ × List ℕ
 In chain = List ℕ
@@ -80,6 +82,7 @@ abbrev pub Places : Entry → Type 0
 Places examine = Unit {0}
 Places read = List ℕ
 Places deal = List ℕ
+Places number = List ℕ
 Places move = List ℕ
 Places replay = List ℕ × ℕ
 Places chain = List ℕ × ℕ
@@ -103,6 +106,7 @@ abbrev pub promise : (e : Entry) → In e → Places e → Left (Places e)
 promise examine board u = left (told (asked board examined)) u
 promise read image room = readLeft image room
 promise deal deck room = dealLeft deck room
+promise number n room = numberLeft n room
 promise move i room = moveLeft (i .0) (i .1) room
 promise replay i l = replayLeft (i .0) (i .1) (l .0) (l .1)
 promise chain board l = chainLeft board (l .0) (l .1)

@@ -11,9 +11,10 @@ use Rattle.base.specs.Answer.{given}
 use Rattle.board.specs.declared.Board.{Board}
 use Rattle.intake.specs.Image.{imageRead}
 use Rattle.intake.specs.Deal.{dealAsked}
+use Rattle.intake.specs.Number.{isNumber}
 use Rattle.base.specs.Blank.{blank}
 use Rattle.corbelnib.specs.Judged.{isAnswer}
-use Rattle.demands.specs.Calls.{Entry, examine, read, deal, move, replay, chain, moves, candidates, token, priority, scores, signature, features, capacity, judge}
+use Rattle.demands.specs.Calls.{Entry, examine, read, deal, number, move, replay, chain, moves, candidates, token, priority, scores, signature, features, capacity, judge}
 use Rattle.demands.specs.Calls.{boundary, Call, GoodBoard, capacityIn}
 use Rattle.moves.specs.Written.{listRoom}
 use Rattle.solver.specs.Searched.{mostPops}
@@ -33,6 +34,7 @@ abbrev pub refusals : Entry → List ℕ
 refusals examine = boards
 refusals read = 10 ∷ 11 ∷ 12 ∷ 13 ∷ 14 ∷ 15 ∷ 21 ∷ []
 refusals deal = 16 ∷ 13 ∷ 14 ∷ 21 ∷ []
+refusals number = 41 ∷ 21 ∷ []
 refusals move = boards ++ (30 ∷ 21 ∷ [])
 refusals replay = boards ++ (31 ∷ 21 ∷ [])
 refusals chain = boards ++ (21 ∷ [])
@@ -52,6 +54,7 @@ abbrev pub hands : Entry → ℕ → Bool
 hands examine n = eqb n 0
 hands read n = eqb n 0
 hands deal n = eqb n 0
+hands number n = eqb n 0
 hands move n = eqb n 0
 hands replay n = eqb n 0 || eqb n 30
 hands chain n = eqb n 0
@@ -86,6 +89,7 @@ abbrev pub Examined : (e : Entry) → Call e → Type 0
 Examined examine c = GoodBoard (c .input)
 Examined read c = IsImage (c .input)
 Examined deal c = IsDeck (c .input)
+Examined number c = isNumber (c .input) ≡ true
 Examined move c = GoodBoard (c .input .0)
 Examined replay c = GoodBoard (c .input .0)
 Examined chain c = GoodBoard (c .input)
@@ -113,30 +117,31 @@ pub record Cleared (c : Call judge) : Type 0 where
   pub keys : c .after .keys ≡ blank (c .before .keys)
   pub costs : c .after .costs ≡ blank (c .before .costs)
 
--- which of the fifteen a function is
+-- which of the sixteen a function is
 abbrev pub placeOf : Entry → ℕ
 placeOf examine = 0
 placeOf read = 1
 placeOf deal = 2
-placeOf move = 3
-placeOf replay = 4
-placeOf chain = 5
-placeOf moves = 6
-placeOf candidates = 7
-placeOf token = 8
-placeOf priority = 9
-placeOf scores = 10
-placeOf signature = 11
-placeOf features = 12
-placeOf capacity = 13
-placeOf judge = 14
+placeOf number = 3
+placeOf move = 4
+placeOf replay = 5
+placeOf chain = 6
+placeOf moves = 7
+placeOf candidates = 8
+placeOf token = 9
+placeOf priority = 10
+placeOf scores = 11
+placeOf signature = 12
+placeOf features = 13
+placeOf capacity = 14
+placeOf judge = 15
 
 pub record Demand1 : Type 0 where
   -- "Nothing traps, nothing runs on. No board image, deck, move, list, budget or lent memory makes it trap": whatever goes in and
   -- whatever lies in the lent places, there is one end
   pub oneEnd : {e : Entry} (x y : Call e) → x .input ≡ y .input → x .before ≡ y .before → SameEnd x y
-  -- "Every entry point ..": these fifteen
-  pub fifteen : length boundary ≡ 15
+  -- "Every entry point ..": these sixteen
+  pub many : length boundary ≡ 16
   pub all : (e : Entry) → getD boundary (placeOf e) judge ≡ e
   -- ".. examines what it gets": a function that hands something back was given what SCOPE.md asks for
   pub examines : {e : Entry} (c : Call e) → hands e (c .number) ≡ true → Examined e c

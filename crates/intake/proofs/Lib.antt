@@ -4,4 +4,5 @@ pub mod Walking
 pub mod Imaging
 pub mod Dealing
 pub mod Accepted
+pub mod Numbers
 pub mod Unique

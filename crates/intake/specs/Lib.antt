@@ -2,4 +2,5 @@
 pub mod Handed
 pub mod Image
 pub mod Deal
+pub mod Number
 pub mod Inside

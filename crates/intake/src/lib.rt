@@ -1,4 +1,4 @@
-// Boards from outside: reading an image, dealing a deck.
+// Boards from outside: reading an image, dealing a deck, dealing the hand of a number.
 ghost use mathlib.Core.Path.{_≡_};
 ghost use Rattle.board.specs.declared.Examined.the-variants.{Refused};
 ghost use Rattle.intake.specs.Handed.{blank};
@@ -9,6 +9,7 @@ use board::Refusal;
 
 pub mod deal;
 pub mod image;
+pub mod number;
 
 // A board beside what was said of it; after a refusal the board is all zero.
 pub struct Reading {

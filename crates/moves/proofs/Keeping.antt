@@ -5,13 +5,12 @@ use mathlib.Core.List.{List, [], _∷_, _++_}
 use Prim.Native.Nat.{ℕ, zero, suc, _+_, _-_, _<_}
 use native.Mathlib.Nat.{not-suc-le-zero, le-of-suc-le-suc}
 use native.Mathlib.Omega.{arith}
-use native.Mathlib.Decide.{ℕ-discrete}
 use borrow.Author.Tests.{ltb-true}
 use lib.ListN.{length, getD, set, length-set, take-append-drop}
 use lib.Seq.{getD-set-same, getD-set-other}
 use Rattle.base.specs.Words.{occurs, concat, sum}
 use Rattle.base.proofs.Words.{occurs-append, occurs-concat}
-use Rattle.base.proofs.Sums.{sum-same}
+use Rattle.base.proofs.Sums.{sum-changed}
 use Rattle.board.specs.Table.{Table, pile, piles, held, cardsOn}
 use Rattle.board.specs.Fair.{Seats}
 use Rattle.board.proofs.Tables.{held-append}
@@ -41,21 +40,6 @@ module _ (x : ℕ) where
       let a = ap (occurs x) (held-append (c ∷ []) (set cells i v)) ∙ occurs-append x (held (c ∷ [])) (held (set cells i v)) in
       let b = ap (occurs x) (held-append (c ∷ []) cells) ∙ occurs-append x (held (c ∷ [])) (held cells) in
       omega arith
-
--- a sum of which one term changes
-pub sum-changed : (f g : ℕ → ℕ) (n j : ℕ) → j < n → ((k : ℕ) → k < n → (k ≡ j → ⊥) → f k ≡ g k) → sum n f + g j ≡ sum n g + f j
-unfolding sum
-sum-changed f g zero j h e = absurd (not-suc-le-zero h)
-sum-changed f g (suc n) j h e = here-or-before (sum-changed f g n j) (ℕ-discrete j n)
-  where
-    here-or-before : (j < n → ((k : ℕ) → k < n → (k ≡ j → ⊥) → f k ≡ g k) → sum n f + g j ≡ sum n g + f j) → Dec (j ≡ n)
-        → sum n f + f n + g j ≡ sum n g + g n + f j
-    here-or-before before (yes q) =
-        let s = sum-same f g n (λ k l. e k (omega arith) (omega arith)) in
-        omega (arith, ap f q, ap g q)
-    here-or-before before (no d) =
-        let b = before (omega arith) (λ k l c. e k (omega arith) c) in
-        omega (arith, e n (omega arith) (λ q. d (sym q)))
 
 module _ (x : ℕ) where
   set-piles : (foundation : List ℕ) (s n : ℕ) → length foundation ≡ 4 → s < 4

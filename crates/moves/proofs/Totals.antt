@@ -8,6 +8,7 @@ use borrow.Author.Tests.{ltb-true}
 use lib.ListN.{length, getD, set, length-append}
 use lib.Seq.{getD-set-same, getD-set-other}
 use Rattle.base.proofs.Words.{length-listed}
+use Rattle.base.proofs.Sums.{sum-changed}
 use Rattle.board.specs.Table.{Table, pile}
 use Rattle.board.specs.Fair.{Seats}
 use Rattle.questions.specs.Questions.{homeCount}
@@ -15,7 +16,7 @@ use Rattle.moves.specs.Move.{Place, column, cell, home, from, to, count,
 use Rattle.moves.specs.Play.{there, put, lastOf, othersOf, hand, without, afterMove, allowed, homeward}
 use Rattle.moves.specs.declared.Move.{Move}
 use Rattle.moves.specs.declared.Move.the-variants.{TableauToTableau, TableauToFoundation, TableauToFreeCell, FreeCellToTableau, FreeCellToFoundation, FoundationToTableau}
-use Rattle.moves.proofs.Keeping.{seats-put, sum-changed, others-and-last}
+use Rattle.moves.proofs.Keeping.{seats-put, others-and-last}
 use Rattle.moves.proofs.Allowing.{allowed-is, last-length}
 use Rattle.moves.proofs.Records.{said-from, said-to}
 

@@ -1,6 +1,6 @@
 // Calls the functions of the library for C, each by its number, and writes what comes back and what stands then in every lent
 // place, for comparison with the original (compare/src/calls.rs).
-// Input, again and again: how many bytes come after the next eleven, two bytes; the function, 1 to 15; how much room is lent,
+// Input, again and again: how many bytes come after the next eleven, two bytes; the function, 1 to 16; how much room is lent,
 // two bytes; how many bytes of the board are given, two bytes; a place of the board, two bytes, and the byte put there; a kind
 // of move, or a flag; how many bytes are given beside the board, two bytes. After the eleven: these bytes, and the board's
 // image. The higher byte of a number comes first.
@@ -24,6 +24,13 @@ fn triple(high: u8, middle: u8, low: u8) -> usize {
     let upper = high as usize * 65536;
     let next = middle as usize * 256;
     upper + next + low as usize
+}
+
+// Four bytes as a number.
+fn four(first: u8, second: u8, third: u8, fourth: u8) -> usize {
+    let upper = pair(first, second) % 65536 * 65536;
+    let lower = pair(third, fourth) % 65536;
+    upper + lower
 }
 
 fn space() {
@@ -266,6 +273,16 @@ fn judge(board: &[u8], settings: &[u8], partial: u8, list: &mut [u8]) {
     number(sum(&costs));
 }
 
+// Beside the board stands the hand's number, eight bytes.
+fn hand(s: &[u8], room: &mut [u8]) {
+    if s.len() < 8 {
+        return;
+    }
+    let upper = four(s[0], s[1], s[2], s[3]) % 4294967296 * 4294967296;
+    let lower = four(s[4], s[5], s[6], s[7]) % 4294967296;
+    number(wide(corbelnib::corbelnib_number(upper + lower, room)));
+}
+
 // The functions that are lent no room for bytes.
 fn asked(function: u8, board: &[u8], bytes: &[u8], kind: u8, room: usize) {
     match function {
@@ -291,6 +308,7 @@ fn handed(function: u8, board: &[u8], bytes: &[u8], kind: u8, room: &mut [u8]) {
         8 => candidates(board, room),
         9 => token(board, room),
         15 => judge(board, bytes, kind, room),
+        16 => hand(bytes, room),
         _ => {}
     }
 }

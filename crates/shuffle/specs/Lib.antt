@@ -1,0 +1,2 @@
+-- The published shuffle.
+pub mod Shuffle
