@@ -18,7 +18,9 @@ use Rattle.board.specs.declared.Board.{Board}
 use Rattle.questions.specs.Questions.{topOf}
 use Rattle.questions.specs.declared.Top.the-variants.{Is, Empty}
 use Rattle.questions.proofs.Asking.{top-none, top-some}
-use Rattle.moves.specs.Move.{Place, home, from, to, count, card, sayable}
+use Rattle.moves.specs.Move.{from, to, count, card, sayable}
+use Rattle.moves.specs.declared.Place.{Place}
+use Rattle.moves.specs.declared.Place.the-variants.{Home as home}
 use Rattle.moves.specs.Play.{there, lastOf, endsIn, elsewhere, withinLimit, takes, allowed}
 use Rattle.moves.specs.declared.Move.{Move}
 use Rattle.moves.proofs.Allowing.{last-first}
@@ -30,43 +32,6 @@ use Rattle.generate.specs.declared.Way.{Way}
 use Rattle.generate.specs.declared.Way.the-variants.{ColumnToColumn, ColumnToHome, ColumnToCell, CellToColumn, CellToHome, HomeToColumn}
 use Rattle.generate.proofs.Gathering.{gather-nothing}
 use Rattle.generate.proofs.Places.{cards-there}
-
--- ---- the top of a place
-
-top-empty : (l : List ℕ) → topOf l ≡ Empty → length l ≡ 0
-top-empty [] e = refl
-top-empty (x ∷ l) e =
-    let s = top-some (x ∷ l) (length l) refl in
-    let z : _≡_ {A = ℕ} 0 1 = cc in
-    absurd (let w : ⊥ = omega arith in w)
-
-some-there : (l : List ℕ) (c : Card) → topOf l ≡ Is c → length l ≡ suc (length l - 1)
-some-there [] c e =
-    let n = top-none [] refl in
-    let z : _≡_ {A = ℕ} 0 1 = cc in
-    absurd (let w : ⊥ = omega arith in w)
-some-there (x ∷ l) c e = omega arith
-
-module _ (l : List ℕ) (c : Card) (top : topOf l ≡ Is c) where
-  abbrev last : ℕ
-  last = getD l (length l - 1) 0
-
-  named : cardOf last ≡ c
-  named = let s = top-some l (length l - 1) (some-there l c top) in cc
-
-  top-card : cardOf (getD (lastOf 1 l) 0 0) ≡ c
-  top-card = ap cardOf (last-first 1 l) ∙ named
-
-  module _ (cards : all isCard l ≡ true) where
-    last-card : isCard last ≡ true
-    last-card = let h = some-there l c top in all-at isCard l cards (length l - 1) (omega arith)
-
-    top-value : isValue (c .value) ≡ true
-    top-value = subst (λ (d : Card). isValue (d .value) ≡ true) named (value-of-card last last-card)
-
-    top-ends : endsIn l (codeOf c) ≡ true
-    top-ends =
-        ends-some l (codeOf c) (length l - 1) (some-there l c top) ∙ eq-eqb last (codeOf c) (sym (code-card last last-card) ∙ ap codeOf named)
 
 -- ---- the move of a kind from place i to place j
 

@@ -111,21 +111,6 @@ fn move_from(way: Way, i: usize, j: usize, card: Card) -> Move
     }
 }
 
-// The top of a foundation.
-fn home_at(foundation: &[u8; 4], i: usize) -> Top
-    requires { ⌜ GoodPiles (now foundation) ⌝ }
-    requires { ⌜ i < 4 ⌝ }
-    ensures { λ r. ⌜ r ≡ topOf (pile i (getD (now (foundation .entry)) i 0)) ⌝ }
-{
-    let value = foundation[i];
-    if value == 0 {
-        return Top::Empty;
-    }
-    let s = i as u8;
-    let suit = card::suit_at(s);
-    Top::Is(Card { suit, value })
-}
-
 // The last card at the place that a kind of move takes from.
 fn card_at<'a>(
     way: Way,
@@ -145,7 +130,7 @@ fn card_at<'a>(
         Way::ColumnToCell => questions::top_at(counts, tableau, i),
         Way::CellToColumn => questions::cell_at(cells, i),
         Way::CellToHome => questions::cell_at(cells, i),
-        Way::HomeToColumn => home_at(foundation, i),
+        Way::HomeToColumn => play::rule::home_at(foundation, i),
     }
 }
 

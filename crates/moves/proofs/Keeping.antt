@@ -14,7 +14,9 @@ use Rattle.base.proofs.Sums.{sum-changed}
 use Rattle.board.specs.Table.{Table, pile, piles, held, cardsOn}
 use Rattle.board.specs.Fair.{Seats}
 use Rattle.board.proofs.Tables.{held-append}
-use Rattle.moves.specs.Move.{Place, column, cell, home, from, to, count, isPlace}
+use Rattle.moves.specs.Move.{from, to, count, isPlace}
+use Rattle.moves.specs.declared.Place.{Place}
+use Rattle.moves.specs.declared.Place.the-variants.{Column as column, Cell as cell, Home as home}
 use Rattle.moves.specs.Play.{there, cellCode, put, lastOf, othersOf, hand, without, afterMove}
 use Rattle.moves.specs.declared.Move.{Move}
 

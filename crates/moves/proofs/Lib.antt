@@ -7,4 +7,5 @@ pub mod Allowing
 pub mod Fairness
 pub mod Totals
 pub mod Deciding
+pub mod Ruling
 pub mod Unique
