@@ -1,31 +1,29 @@
 -- The moves of one card between two places: decided by the top of the one and by what the other takes.
-use mathlib.Core.Path.{_≡_, refl, sym, ap, ap₂, _∙_, subst}
+use mathlib.Core.Path.{_≡_, refl, sym, ap, _∙_, subst}
 use mathlib.Core.Bool.{Bool, true, false, cond}
-use mathlib.Core.List.{List, [], _∷_}
-use Prim.Native.Nat.{ℕ, suc, _-_, _<_, _≤_}
+use mathlib.Core.List.{[], _∷_}
+use Prim.Native.Nat.{ℕ, _-_, _<_, _≤_}
 use native.Mathlib.Omega.{arith}
-use borrow.Author.Tests.{lt-ltb, le-leb, eq-eqb}
+use borrow.Author.Tests.{lt-ltb, le-leb}
 use lib.ListN.{length, getD}
 use Rattle.base.specs.Words.{all}
 use Rattle.card.specs.Suit.{suitNumber, suitAt}
 use Rattle.card.specs.Card.{isCard, isValue, cardOf, codeOf}
 use Rattle.card.specs.declared.Card.{Card}
-use Rattle.base.proofs.Words.{both, all-at}
-use Rattle.card.proofs.Codes.{suit-below, number-suit-at, code-card, value-of-card}
+use Rattle.base.proofs.Words.{both}
+use Rattle.card.proofs.Codes.{suit-below, number-suit-at}
 use Rattle.board.specs.Table.{Table}
 use Rattle.board.specs.Record.{shown}
 use Rattle.board.specs.declared.Board.{Board}
 use Rattle.questions.specs.Questions.{topOf}
 use Rattle.questions.specs.declared.Top.the-variants.{Is, Empty}
-use Rattle.questions.proofs.Asking.{top-none, top-some}
 use Rattle.moves.specs.Move.{from, to, count, card, sayable}
 use Rattle.moves.specs.declared.Place.{Place}
 use Rattle.moves.specs.declared.Place.the-variants.{Home as home}
-use Rattle.moves.specs.Play.{there, lastOf, endsIn, elsewhere, withinLimit, takes, allowed}
+use Rattle.moves.specs.Play.{there, lastOf, elsewhere, withinLimit, takes, allowed}
 use Rattle.moves.specs.declared.Move.{Move}
-use Rattle.moves.proofs.Allowing.{last-first}
 use Rattle.moves.proofs.Deciding.{deny-some, one-decided}
-use Rattle.play.proofs.Ending.{ends-some}
+use Rattle.play.proofs.Tops.{top-empty, some-there, top-card, top-value, top-code}
 use Rattle.generate.specs.Found.{sourceCount, targetCount, source, moveFrom, offered, ifAllowed, gather, foundBetween, foundFrom}
 use Rattle.generate.specs.Inner.{Offers}
 use Rattle.generate.specs.declared.Way.{Way}
@@ -97,7 +95,8 @@ module _ (t : Table) (w : Way) (i j : ℕ) (one : w ≡ ColumnToColumn → ⊥) 
       s .tried ∙ ap (λ (d : Card). ifAllowed t (moveFrom w i j 1 d)) (top-card (there t (source w i)) c top)
       ∙ if-allowed t (moveFrom w i j 1 c) r
       (one-decided t (moveFrom w i j 1 c) (s .one) (s .away) (s .limit)
-      (ap₂ (λ (p : Place) (d : Card). endsIn (there t p) (codeOf d)) (comes-from w i j 1 c h) (s .named) ∙ top-ends (there t (source w i)) c top cards)
+      (let n = some-there (there t (source w i)) c top in let q = ap (λ (p : Place). length (there t p)) (comes-from w i j 1 c h) in omega arith)
+      (ap (λ (p : Place). getD (lastOf 1 (there t p)) 0 0) (comes-from w i j 1 c h) ∙ top-code (there t (source w i)) c top cards ∙ ap codeOf (sym (s .named)))
       ∙ ap (λ (d : Card). takes t (to (moveFrom w i j 1 c)) (codeOf d)) (s .named) ∙ sym e)
 
 pub none-from : (t : Table) (w : Way) (i : ℕ) → (w ≡ ColumnToColumn → ⊥) → i < sourceCount w → topOf (there t (source w i)) ≡ Empty → foundFrom t w i ≡ []

@@ -1,33 +1,23 @@
 -- What a record says of its places: the top of each, and what each takes.
-use mathlib.Core.Path.{_≡_, refl, sym, ap, ap₂, _∙_, subst}
-use mathlib.Core.Bool.{Bool, true, false, cond}
-use mathlib.Core.List.{List, [], _∷_}
-use Prim.Native.Nat.{ℕ, _+_, _-_, _*_, _/_, _%_, _<_}
-use native.Mathlib.Omega.{arith}
+use mathlib.Core.Path.{_≡_, sym, ap, _∙_, subst}
+use mathlib.Core.Bool.{Bool, true}
+use Prim.Native.Nat.{ℕ, _-_, _<_}
 use borrow.Author.Tests.{lt-ltb}
 use lib.Dec.{eqb}
 use lib.ListN.{getD}
-use Rattle.base.specs.Words.{all, listed}
-use Rattle.card.specs.Suit.{suitAt}
-use Rattle.card.specs.Card.{isCard, cardOf}
-use Rattle.card.specs.declared.Suit.{Suit}
-use Rattle.base.proofs.Words.{length-listed, getD-listed}
-use Rattle.board.specs.Table.{pile, held}
+use Rattle.base.specs.Words.{all}
+use Rattle.card.specs.Card.{isCard}
 use Rattle.board.specs.Record.{columnAt, shown}
 use Rattle.board.specs.Inner.{Sound}
 use Rattle.board.specs.declared.Board.{Board}
 use Rattle.board.proofs.Fair.{shows-fair}
-use Rattle.questions.specs.Questions.{topOf, cellOf}
-use Rattle.questions.specs.declared.Top.{Top}
-use Rattle.questions.specs.declared.Top.the-variants.{Is, Empty}
-use Rattle.questions.proofs.Asking.{top-none, top-some, shown-column, shown-cells, shown-foundation}
 use Rattle.rules.specs.Fit.{fitsOn, homeTakes}
 use Rattle.moves.specs.Move.{isPlace}
 use Rattle.moves.specs.declared.Place.{Place}
 use Rattle.moves.specs.declared.Place.the-variants.{Column as column, Cell as cell, Home as home}
 use Rattle.moves.specs.Play.{there, takes}
 use Rattle.moves.proofs.Fairness.{fair-cards}
-use Rattle.play.proofs.Ending.{shown-takes-column, shown-takes-home, shown-takes-cell}
+use Rattle.play.proofs.Landing.{shown-takes-column, shown-takes-home, shown-takes-cell}
 use Rattle.generate.specs.Found.{sourceCount, targetCount, source}
 use Rattle.generate.specs.declared.Way.{Way}
 use Rattle.generate.specs.declared.Way.the-variants.{ColumnToColumn, ColumnToHome, ColumnToCell, CellToColumn, CellToHome, HomeToColumn}

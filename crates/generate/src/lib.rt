@@ -1,17 +1,15 @@
 // The six generators of moves, in one walk: by source, destination, length (after freecell/board.rs, `find_..`, changed: NOTICE).
 ghost use mathlib.Core.Path.{_≡_};
 ghost use mathlib.Core.Bool.{true};
-ghost use mathlib.Core.List.{_∷_, []};
 ghost use Prim.Native.Nat.{suc, min, _+_, _*_, _<_, _≤_};
-ghost use lib.ListN.{length, getD};
+ghost use lib.ListN.{length};
 ghost use Rattle.card.specs.Card.{isValue, codeOf};
 ghost use Rattle.board.specs.Record.{shown, columnAt, laid};
-ghost use Rattle.board.specs.Table.{pile};
-ghost use Rattle.board.specs.Inner.{GoodPiles, Sound};
+ghost use Rattle.board.specs.Inner.{Sound};
 ghost use Rattle.questions.specs.Questions.{topOf};
 ghost use Rattle.questions.specs.declared.Top.the-variants.{Is};
 ghost use Rattle.runs.specs.Run.{runLength};
-ghost use Rattle.moves.specs.Move.{to, sayable};
+ghost use Rattle.moves.specs.Move.{to};
 ghost use Rattle.moves.specs.Play.{there, takes};
 ghost use Rattle.generate.specs.Found.{sourceCount, targetCount, source, moveFrom, offered, ifAllowed, foundBetween, foundFrom, found};
 ghost use Rattle.moves.specs.Written.{Adds};

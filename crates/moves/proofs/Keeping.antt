@@ -8,7 +8,7 @@ use native.Mathlib.Omega.{arith}
 use borrow.Author.Tests.{ltb-true}
 use lib.ListN.{length, getD, set, length-set, take-append-drop}
 use lib.Seq.{getD-set-same, getD-set-other}
-use Rattle.base.specs.Words.{occurs, concat, sum}
+use Rattle.base.specs.Words.{occurs, concat}
 use Rattle.base.proofs.Words.{occurs-append, occurs-concat}
 use Rattle.base.proofs.Sums.{sum-changed}
 use Rattle.board.specs.Table.{Table, pile, piles, held, cardsOn}

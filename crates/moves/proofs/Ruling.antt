@@ -7,7 +7,7 @@ use native.Mathlib.Omega.{arith}
 use borrow.Author.Tests.{le-leb, lt-leb, eq-eqb, ne-eqb}
 use lib.Dec.{eqb, leb}
 use lib.ListN.{length, getD}
-use Rattle.base.specs.Answer.{Answer, given, refused, unless}
+use Rattle.base.specs.Answer.{given, refused, unless}
 use Rattle.card.specs.Card.{codeOf}
 use Rattle.board.specs.Table.{Table}
 use Rattle.board.specs.Verdict.{Verdict, fine, after}

@@ -6,7 +6,6 @@ use Rattle.card.specs.Card.{isCard, isValue, codeOf}
 use Rattle.card.specs.declared.Card.{Card}
 use Rattle.card.proofs.Codes.{code-is-card}
 use Rattle.board.specs.Record.{shown}
-use Rattle.board.specs.Verdict.{Verdict}
 use Rattle.questions.specs.Questions.{topOf}
 use Rattle.moves.specs.Move.{isPlace}
 use Rattle.moves.specs.declared.Place.{Place}
