@@ -8,4 +8,5 @@ pub mod Fairness
 pub mod Totals
 pub mod Deciding
 pub mod Ruling
+pub mod Examples
 pub mod Unique

@@ -77,10 +77,7 @@ fn put_there(b: Board, place: Place, code: u8) -> Examined
             Refusal::NoFit,
         ),
         Place::Cell(i) => ruled(b.cells[i] == 255, Refusal::CellFull),
-        Place::Home(s) => ruled(
-            rules::home_takes(&b.foundation, code),
-            Refusal::NotNext,
-        ),
+        Place::Home(s) => ruled(rules::home_takes(&b.foundation, code), Refusal::NotNext),
     }
 }
 

@@ -75,7 +75,7 @@ module _ {b : Board} (s : Sound b) (r : List ℕ) (byte : getD r 3 0 ≤ 255) (r
   turn-keeps (given c) e = let k = step-keeps s r byte e in both-kept k (on c (k .sound))
   turn-keeps (refused n) e = none-kept s
 
-line-keeps : (n : ℕ) (l : List ℕ) → length l / 5 ≡ n → Bytes l → (b : Board) → Sound b → Kept b (lineFrom b (recordsIn l) .board)
+pub line-keeps : (n : ℕ) (l : List ℕ) → length l / 5 ≡ n → Bytes l → (b : Board) → Sound b → Kept b (lineFrom b (recordsIn l) .board)
 unfolding lineFrom
 line-keeps zero l e f b s =
     subst (λ (rs : List (List ℕ)). Kept b (lineFrom b rs .board)) (sym (records-none l (omega arith))) (none-kept s)
