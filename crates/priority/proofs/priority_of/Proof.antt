@@ -41,8 +41,8 @@ enum-told-2 c = search needs
 
 returns-2 : tie.Need-returns-2
 unfolding priorityAsked
-returns-2 c = let s = c .before .before .before .before .before .before .before .before .before .before .before .before in
-    sym (after-yes _ (c .before .before .before .before .before .inspect .ensures) (c .before .before .before .enum-told .given .1) ∙ asked-none (shown (s .args .t1)) (s .args .bytes .now) (c .before .before .decode .ensures .0) (c .enum-told2 .given .1))
+returns-2 c = let at-decode = c .before .before in let at-told = at-decode .before in let at-inspect = at-told .before .before in let s = at-inspect .before .before .before .before .before .before .before in
+    sym (after-yes _ (at-inspect .inspect .ensures) (at-told .enum-told .given .1) ∙ asked-none (shown (s .args .t1)) (s .args .bytes .now) (at-decode .decode .ensures .0) (c .enum-told2 .given .1))
 
 ruled-at-requires : tie.Need-ruled-at-requires
 ruled-at-requires c κs = let s = c .before .before .before .before .before .before .before .before .before .before .before .before .before in
@@ -53,8 +53,8 @@ enum-known-why-2 c = search needs
 
 returns-3 : tie.Need-returns-3
 unfolding priorityAsked
-returns-3 c = let s = c .before .before .before .before .before .before .before .before .before .before .before .before .before .before .before .before .before in
-    sym (after-yes _ (c .before .before .before .before .before .before .before .before .before .before .inspect .ensures) (c .before .before .before .before .before .before .before .before .enum-told .given .1) ∙ asked-move (shown (s .args .t1)) (s .args .bytes .now) (c .before .before .before .before .before .before .before .decode .ensures .0) (c .before .before .before .before .before .m .given .0 .0) (c .before .before .before .before .before .m .given .1) (sym (c .before .before .before .ruled-at .ensures) ∙ ap examinedTold (c .before .why2 .given .1)))
+returns-3 c = let at-fine = c .before in let at-ruled = at-fine .before .before in let at-m = at-ruled .before .before in let at-decode = at-m .before .before in let at-told = at-decode .before in let at-inspect = at-told .before .before in let s = at-inspect .before .before .before .before .before .before .before in
+    sym (after-yes _ (at-inspect .inspect .ensures) (at-told .enum-told .given .1) ∙ asked-move (shown (s .args .t1)) (s .args .bytes .now) (at-decode .decode .ensures .0) (at-m .m .given .0 .0) (at-m .m .given .1) (sym (at-ruled .ruled-at .ensures) ∙ ap examinedTold (at-fine .why2 .given .1)))
 
 enum-told-3 : tie.Need-enum-told-3
 enum-told-3 c = search needs

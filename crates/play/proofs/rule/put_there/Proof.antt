@@ -9,7 +9,7 @@ enum-known-place : tie.Need-enum-known-place
 enum-known-place c = search needs
 
 fit-at-requires : tie.Need-fit-at-requires
-fit-at-requires c κs = let p4 = c .before .before .before .before in let p6 = p4 .before .before in (p6 .pre .0 .inColumns, (in-column (p6 .pre .1 .0) (p4 .place .given .1), p6 .pre .1 .1))
+fit-at-requires c κs = let p3 = c .before .before .before in let p4 = p3 .before in let p6 = p4 .before .before in (p6 .pre .0 .inColumns, (in-column (p6 .pre .1 .0) (p4 .place .given .1), p6 .pre .1 .1))
 
 ruled-requires : tie.Need-ruled-requires
 ruled-requires c κs = search needs
@@ -33,13 +33,13 @@ ruled-requires-3 : tie.Need-ruled-requires-3
 ruled-requires-3 c κs = search needs
 
 returns : tie.Need-returns
-returns c = let p6 = c .before .before .before .before .before .before in let p8 = p6 .before .before in lands-column (p8 .args .t1) (p8 .args .code) _ (p6 .place .given .1) (in-column (p8 .pre .1 .0) (p6 .place .given .1)) (c .before .fit-at .ensures) (c .ruled .ensures)
+returns c = let p5 = c .before .before .before .before .before in let p6 = p5 .before in let p8 = p6 .before .before in lands-column (p8 .args .t1) (p8 .args .code) _ (p6 .place .given .1) (in-column (p8 .pre .1 .0) (p6 .place .given .1)) (c .before .fit-at .ensures) (c .ruled .ensures)
 
 returns-2 : tie.Need-returns-2
-returns-2 c = let p3 = c .before .before .before in let p5 = p3 .before .before in lands-cell (p5 .args .t1) (p5 .args .code) _ (p3 .place2 .given .1) (c .ruled2 .ensures)
+returns-2 c = let p2 = c .before .before in let p3 = p2 .before in let p5 = p3 .before .before in lands-cell (p5 .args .t1) (p5 .args .code) _ (p3 .place2 .given .1) (c .ruled2 .ensures)
 
 returns-3 : tie.Need-returns-3
-returns-3 c = let p5 = c .before .before .before .before .before in let p7 = p5 .before .before in lands-home (p7 .args .t1) (p7 .args .code) _ (p5 .place3 .given .1) (c .before .home-takes .ensures) (c .ruled3 .ensures)
+returns-3 c = let p4 = c .before .before .before .before in let p5 = p4 .before in let p7 = p5 .before .before in lands-home (p7 .args .t1) (p7 .args .code) _ (p5 .place3 .given .1) (c .before .home-takes .ensures) (c .ruled3 .ensures)
 
 pub put-there-spec : {M : Type 1} → statement M
 put-there-spec =

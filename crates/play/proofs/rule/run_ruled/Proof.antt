@@ -30,14 +30,14 @@ returns-3 c = let at-if2 = c .before in let at-wide = at-if2 .before in let at-i
     too-many (s .args .t1) (s .args .source) (s .args .destination) (s .args .count) (s .args .card) (s .pre .0) (s .pre .1) (at-if1 .if1 .left) (at-wide .wide .result) (at-wide .wide .ensures) (at-if2 .if2 .left) (c .if3 .taken)
 
 mul-first : tie.Need-mul-first
-mul-first c = let s = c .before .before .before .before .before in omega (arith, ltb-true (s .args .source) 8 (said-from _ (s .pre .1)))
+mul-first c = let p4 = c .before .before .before .before in let s = p4 .before in omega (arith, ltb-true (s .args .source) 8 (said-from _ (s .pre .1)))
 
 add-deepest : tie.Need-add-deepest
 add-deepest c = let at-wide = c .before .before in let s = at-wide .before .before .before in
     omega (arith, ltb-true (s .args .source) 8 (said-from _ (s .pre .1)), at-wide .wide .ensures, s .pre .0 .inColumns .within (s .args .source) (ltb-true (s .args .source) 8 (said-from _ (s .pre .1))))
 
 code-of-requires : tie.Need-code-of-requires
-code-of-requires c κs = let s = c .before .before .before .before .before in said-value _ (s .pre .1)
+code-of-requires c κs = let p4 = c .before .before .before .before in let s = p4 .before in said-value _ (s .pre .1)
 
 element-copy-out-if4 : tie.Need-element-copy-out-if4
 element-copy-out-if4 c = let at-wide = c .before .before .before in let s = at-wide .before .before .before in
@@ -48,14 +48,14 @@ returns-4 c = let at-code-of = c .before .before in let at-if3 = at-code-of .bef
     other-card (s .args .t1) (s .args .source) (s .args .destination) (s .args .count) (s .args .card) (s .pre .0) (s .pre .1) (at-if1 .if1 .left) (at-wide .wide .result) (at-wide .wide .ensures) (at-if2 .if2 .left) (at-if3 .if3 .left) (at-code-of .code-of .ensures) (c .if4 .taken)
 
 most-at-requires : tie.Need-most-at-requires
-most-at-requires c κs = let s = c .before .before .before .before .before .before .before .before .before .before .before .before in (s .pre .0 .inCells, (s .pre .0 .inColumns, ltb-true (s .args .destination) 8 (said-to _ (s .pre .1))))
+most-at-requires c κs = let p11 = c .before .before .before .before .before .before .before .before .before .before .before in let s = p11 .before in (s .pre .0 .inCells, (s .pre .0 .inColumns, omega (arith, ltb-true (s .args .source) 8 (said-from _ (s .pre .1)), ltb-true (s .args .destination) 8 (said-to _ (s .pre .1)))))
 
 returns-5 : tie.Need-returns-5
 returns-5 c = let at-most-at = c .before in let at-if4 = at-most-at .before .before .before .before .before in let at-code-of = at-if4 .before .before in let at-if3 = at-code-of .before in let at-if2 = at-if3 .before in let at-wide = at-if2 .before in let at-if1 = at-wide .before .before in let s = at-if1 .before in
     over-limit (s .args .t1) (s .args .source) (s .args .destination) (s .args .count) (s .args .card) (s .pre .0) (s .pre .1) (at-if1 .if1 .left) (at-wide .wide .result) (at-wide .wide .ensures) (at-if2 .if2 .left) (at-if3 .if3 .left) (at-code-of .code-of .ensures) (at-if4 .if4 .left) (at-most-at .most-at .ensures) (c .if5 .taken)
 
 run-at-requires : tie.Need-run-at-requires
-run-at-requires c κs = let s = c .before .before .before .before .before .before .before .before .before .before .before .before .before .before .before .before .before in (s .pre .0 .inColumns, ltb-true (s .args .source) 8 (said-from _ (s .pre .1)))
+run-at-requires c κs = let p16 = c .before .before .before .before .before .before .before .before .before .before .before .before .before .before .before .before in let s = p16 .before in (s .pre .0 .inColumns, ltb-true (s .args .source) 8 (said-from _ (s .pre .1)))
 
 returns-6 : tie.Need-returns-6
 returns-6 c = let at-run-at = c .before in let at-if5 = at-run-at .before .before .before .before in let at-most-at = at-if5 .before in let at-if4 = at-most-at .before .before .before .before .before in let at-code-of = at-if4 .before .before in let at-if3 = at-code-of .before in let at-if2 = at-if3 .before in let at-wide = at-if2 .before in let at-if1 = at-wide .before .before in let s = at-if1 .before in
