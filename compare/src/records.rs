@@ -1,7 +1,7 @@
 // Every record that a board can be asked about, good and bad: one move, its priority, and some of them within a list.
 use crate::asks::{self, Difference};
 use crate::boards::{self, moves_by_kind, played};
-use crate::codes::{bytes, cell_code, code, records, BOARD};
+use crate::codes::{bytes, cell_code, code, record, records, BOARD};
 use crate::draws::Draws;
 use crate::original::freecell::board::FreeCellBoard;
 use crate::plain::enough;
@@ -57,8 +57,8 @@ fn all(board: &FreeCellBoard) -> Vec<Vec<u8>> {
         }
     }
     for moves in moves_by_kind(board) {
-        let record = records(&moves[..moves.len().min(1)]);
-        if !record.is_empty() {
+        if let Some(step) = moves.first() {
+            let record = record(step);
             all.extend([record[..4].to_vec(), [&record[..], &[0]].concat()]);
         }
     }
@@ -81,12 +81,12 @@ fn sorted(board: &FreeCellBoard) -> BTreeMap<Sort, Vec<Vec<u8>>> {
 // How many of each sort there were, if all is as it has to be.
 pub fn compare(draws: &mut Draws, board: &FreeCellBoard) -> Result<Counts, Difference> {
     let (bytes, mut counts) = (bytes(board), Counts::new());
-    for (sort, records) in sorted(board) {
-        for record in &records {
+    for (sort, alike) in sorted(board) {
+        for record in &alike {
             asks::play(draws, &bytes, record, BOARD).map_err(|found| found.on(&[record]))?;
             asks::priority(draws, &bytes, record).map_err(|found| found.on(&[record]))?;
         }
-        counts.insert(sort, records.len());
+        counts.insert(sort, alike.len());
     }
     for _ in 0..LISTS {
         in_lists(draws, board, &mut counts)?;
@@ -103,9 +103,9 @@ fn in_lists(
     let moves = draws.below(5);
     let (before, steps) = played(draws, board.clone(), moves, [3, 3, 2, 3, 3, 1]);
     let start = records(&steps);
-    for ((_, number), records) in sorted(&before) {
+    for ((_, number), alike) in sorted(&before) {
         for _ in 0..OF_A_SORT {
-            let record = &records[draws.below(records.len())];
+            let record = &alike[draws.below(alike.len())];
             if record.len() == 5 {
                 in_list(draws, (board, &start), (&before, record))?;
                 *counts.entry(("in lists".to_string(), number)).or_default() += 1;
@@ -132,13 +132,13 @@ fn in_list(
         let stopped = (number, start.len() / 5, before.clone());
         assert_eq!(refusals::replay(board, &list), stopped);
     }
-    let given = [&bytes(board)[..], &list];
+    let (board, before) = (bytes(board), bytes(before));
     let length = enough(draws, BOARD);
     for length in [length, BOARD - 1] {
-        asks::replay(draws, given[0], &list, length).map_err(|found| found.on(&given))?;
+        asks::replay(draws, &board, &list, length).map_err(|found| found.on(&[&list]))?;
     }
-    // one move tells its number before too little room, a list after it
-    let given = [&bytes(before)[..], record];
-    asks::play(draws, given[0], record, BOARD - 1).map_err(|found| found.on(&given))?;
+    // too little room comes before a move's number in a list, but after it in one move
+    let told = asks::play(draws, &before, record, BOARD - 1);
+    told.map_err(|found| found.on(&[&before, record]))?;
     Ok(())
 }
