@@ -71,7 +71,7 @@ static int judge(const uint8_t *image, size_t length, size_t budget, size_t capa
     uint8_t answer = corbelnib_judge(board, sizeof board, budget, partial, s.nodes, CORBELNIB_NODES(capacity), s.heap,
                                      CORBELNIB_HEAP(capacity), s.keys, CORBELNIB_KEYS(capacity), s.costs,
                                      CORBELNIB_COSTS(capacity), list, sizeof list, &pops, &moves);
-    if (answer <= 4 || answer == 23) {
+    if (CORBELNIB_IS_ANSWER(answer)) {
         print_list(answer, pops, list, moves);
     } else {
         printf("%d\n", answer);

@@ -18,23 +18,8 @@
  * foundation, 3 column to cell, 4 cell to column, 5 cell to foundation, 6 foundation to column. Columns 0 to 7, cells 0 to 3,
  * suits 0 to 3; count is 1 except in kind 1; for kinds 2 and 5 `to` is the card's suit.
  *
- * What comes back is a number: 0 for done (corbelnib_judge: an answer, see there), else why the call was refused (docs/SCOPE.md
- * has all of the numbers, and the rules of play):
- *
- *   10  image under 2 bytes, or its count differs from the bytes that follow
- *   11  no version byte, or not 1
- *   12  image body too short or too long, a foundation count above 13; a board not of 432 bytes, with a column count above
- *       52 or with unused room that is not 0
- *   13  a code that is no card's
- *   14  a card twice
- *   15  a card missing
- *   16  a deck that is not 52 cards
- *   20  a budget above 1,000,000
- *   21  too little room lent
- *   22  scratch that holds no node
- *   30  a move that is not allowed or no record of a move, or a kind of move that is none
- *   31  a list over 1,000 bytes or not a multiple of 5
- *   41  a hand's number outside 1 to 32,000
+ * What comes back is a number: 0 for done (corbelnib_judge: an answer), else why the call was refused. `enum corbelnib_told`
+ * below names them all, with a sentence for each; docs/SCOPE.md has the rules of play.
  *
  * Where several hold, the number is the first in the order that the function's paragraph gives. A refusal changes nothing
  * that was lent; the one exception is said at corbelnib_replay. */
@@ -67,6 +52,76 @@ extern "C" {
 #define CORBELNIB_KEYS(n) (2 * (size_t)(n))
 #define CORBELNIB_COSTS(n) (2 * (size_t)(n))
 
+/* Every number that a call hands back. In quotation marks: what a table can show to a player. */
+enum corbelnib_told {
+    CORBELNIB_DONE = 0,
+
+    /* Answers of corbelnib_judge. */
+    CORBELNIB_WON = 0,            /* the list wins */
+    CORBELNIB_BEST_AT_LIMIT = 1,  /* the budget is used up; the list leads to the best board seen (only if partial) */
+    CORBELNIB_BEST_EXHAUSTED = 2, /* nothing is left to look at; the list leads to the best board seen (only if partial) */
+    CORBELNIB_LIMIT = 3,          /* the budget is used up, no list */
+    CORBELNIB_EXHAUSTED = 4,      /* nothing is left to look at, no list; no claim that the board cannot be won */
+    CORBELNIB_OUT_OF_NODES = 23,  /* the scratch had no room for another node; no list */
+
+    /* Images, boards and decks. */
+    CORBELNIB_WRONG_LENGTH = 10,  /* image under 2 bytes, or its count differs from the bytes that follow */
+    CORBELNIB_WRONG_VERSION = 11, /* no version byte, or not 1 */
+    CORBELNIB_WRONG_SHAPE = 12,   /* image body too short or too long, a foundation count above 13; a board not of 432 bytes,
+                                   * with a column count above 52 or with unused room that is not 0 */
+    CORBELNIB_NO_CARD = 13,       /* a code that is no card's */
+    CORBELNIB_CARD_TWICE = 14,    /* "A card is on the table twice." */
+    CORBELNIB_CARD_MISSING = 15,  /* "A card is missing from the table." */
+    CORBELNIB_NO_DECK = 16,       /* a deck that is not 52 cards */
+    CORBELNIB_NO_NUMBER = 41,     /* "Hands have the numbers 1 to 32,000." */
+
+    /* Settings and room. */
+    CORBELNIB_OVER_BUDGET = 20,   /* a budget above 1,000,000 */
+    CORBELNIB_LITTLE_ROOM = 21,   /* too little room lent */
+    CORBELNIB_NO_NODE = 22,       /* scratch that holds no node */
+    CORBELNIB_WRONG_LIST = 31,    /* a list over 1,000 bytes or not a multiple of 5 */
+
+    /* Moves, in the order in which they are looked for. */
+    CORBELNIB_OUT_OF_RANGE = 30,  /* "There is no such move.": a record not of five bytes, a kind, place, card or count that no
+                                   * record has, or a column to itself; also a kind of move that is none, where one is asked for */
+    CORBELNIB_SOURCE_EMPTY = 33,  /* "There is no card to take." */
+    CORBELNIB_TOO_MANY = 35,      /* "There are not that many cards." */
+    CORBELNIB_OTHER_CARD = 34,    /* "Another card lies there." */
+    CORBELNIB_OVER_LIMIT = 36,    /* "Too many cards at once: empty a cell or a column first." */
+    CORBELNIB_NO_RUN = 37,        /* "These cards are no run: each one lower, red and black in turn." */
+    CORBELNIB_NO_FIT = 38,        /* "The card does not fit on that column." */
+    CORBELNIB_CELL_FULL = 39,     /* "That cell is taken." */
+    CORBELNIB_NOT_NEXT = 40       /* "Another card of this suit has to go home first." */
+};
+
+/* An answer of corbelnib_judge, and no refusal. */
+#define CORBELNIB_IS_ANSWER(told) ((told) <= CORBELNIB_EXHAUSTED || (told) == CORBELNIB_OUT_OF_NODES)
+
+/* A move is refused (corbelnib_move, corbelnib_replay, corbelnib_priority). */
+#define CORBELNIB_IS_BAD_MOVE(told) \
+    ((told) == CORBELNIB_OUT_OF_RANGE || ((told) >= CORBELNIB_SOURCE_EMPTY && (told) <= CORBELNIB_NOT_NEXT))
+
+/* The kinds of moves, the first byte of a record. */
+enum corbelnib_kind {
+    CORBELNIB_COLUMN_TO_COLUMN = 1,
+    CORBELNIB_COLUMN_TO_HOME = 2,
+    CORBELNIB_COLUMN_TO_CELL = 3,
+    CORBELNIB_CELL_TO_COLUMN = 4,
+    CORBELNIB_CELL_TO_HOME = 5,
+    CORBELNIB_HOME_TO_COLUMN = 6
+};
+
+/* Where corbelnib_features puts each feature. */
+enum corbelnib_feature {
+    CORBELNIB_HOME = 0,      /* cards home */
+    CORBELNIB_IMMEDIATE = 1, /* cards that can go home at once */
+    CORBELNIB_BLOCKED = 2,   /* cards on top of aces, twos and threes in columns */
+    CORBELNIB_IMBALANCE = 3, /* the largest foundation count less the smallest */
+    CORBELNIB_USED = 4,      /* cells with a card */
+    CORBELNIB_EMPTY = 5,     /* empty columns */
+    CORBELNIB_LONGEST = 6    /* the longest run */
+};
+
 /* Reads an image (a two-byte big-endian count of the bytes that follow; version byte 1; four cells; four foundation counts;
  * eight columns, each a count and then as many codes, the deepest first) and writes its board, 432 bytes, to the start of
  * `board`; bytes beyond stay. Refusals: 10 to 15 of the image, then 21 if `board` has fewer than 432 bytes. */
@@ -85,14 +140,15 @@ uint8_t corbelnib_number(size_t number, uint8_t *board, size_t board_length);
 uint8_t corbelnib_examine(const uint8_t *board, size_t board_length);
 
 /* Plays one move, five bytes in `record`, and writes the board after it, 432 bytes, to the start of `after`; bytes beyond
- * stay. Refusals: 12 to 15, 30 (also for a record that is not of five bytes), then 21 if `after` has fewer than 432 bytes. */
+ * stay. Refusals: 12 to 15, then why the move is refused (30, 33, 35, 34, 36 to 40), then 21 if `after` has fewer than 432
+ * bytes. */
 uint8_t corbelnib_move(const uint8_t *board, size_t board_length, const uint8_t *record, size_t record_length,
                        uint8_t *after, size_t after_length);
 
 /* Plays a list of moves, five bytes each, writes the board at its end to the start of `after` and tells in `*played` how many
- * moves were played: all. Refusals: 12 to 15, 31, 21 if `after` has fewer than 432 bytes, then 30 for a move that is not
- * allowed. With 30, and only then, something is written beside a refusal: `*played` is the place of the bad move, counted
- * from 0, and `after` the board before it. */
+ * moves were played: all. Refusals: 12 to 15, 31, 21 if `after` has fewer than 432 bytes, then why the first bad move is
+ * refused (30, 33, 35, 34, 36 to 40). With these, and only then, something is written beside a refusal: `*played` is the place
+ * of the bad move, counted from 0, and `after` the board before it. */
 uint8_t corbelnib_replay(const uint8_t *board, size_t board_length, const uint8_t *list, size_t list_length,
                          uint8_t *after, size_t after_length, size_t *played);
 
@@ -107,7 +163,8 @@ uint8_t corbelnib_moves(const uint8_t *board, size_t board_length, uint8_t kind,
 uint8_t corbelnib_candidates(const uint8_t *board, size_t board_length, uint8_t *records, size_t records_length,
                              size_t *count);
 
-/* Tells in `*priority` by how much a search prefers a move. Refusals: 12 to 15, then 30. */
+/* Tells in `*priority` by how much a search prefers a move. Refusals: 12 to 15, then why the move is
+ * refused, as in corbelnib_move. */
 uint8_t corbelnib_priority(const uint8_t *board, size_t board_length, const uint8_t *record, size_t record_length,
                            int64_t *priority);
 
@@ -138,14 +195,7 @@ size_t corbelnib_capacity(size_t nodes_length, size_t heap_length, size_t keys_l
 
 /* Judges a board: looks for a winning line, taking at most `budget` boards from its frontier; `partial` other than 0 allows
  * an unfinished line. The scratch may hold anything before; earlier bytes affect no answer. A node takes 38 bytes of it, and
- * the parts may have any lengths (corbelnib_capacity). Answers:
- *
- *    0  won: the list wins
- *    1  the budget is used up; the list leads to the best board seen (only if partial)
- *    2  nothing is left to look at; the list leads to the best board seen (only if partial)
- *    3  the budget is used up, no list
- *    4  nothing is left to look at, no list; this makes no claim that the board cannot be won
- *   23  the scratch had no room for another node; no list
+ * the parts may have any lengths (corbelnib_capacity). Answers are 0 to 4 and 23 (CORBELNIB_IS_ANSWER).
  *
  * An answer tells in `*pops` how many boards were taken and in `*moves` how many moves the list has (0 where there is none,
  * at most 200), writes the list's moves, five bytes each, to the start of `list` (bytes beyond stay) and leaves every byte of

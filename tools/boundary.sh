@@ -1,6 +1,7 @@
 #!/bin/sh
 # Holds the functions that C can call against each other: the code (crates/corbelnib/src/lib.rt), the header's prototypes, and the
-# list of which demand 1 speaks (crates/demands/specs/Calls.antt). No function may ask anything of its caller.
+# list of which demand 1 speaks (crates/demands/specs/Calls.antt). No function may ask anything of its caller. And the numbers that the
+# header names: each is that of the answer or refusal of the same name in the code.
 set -eu
 cd "$(dirname "$0")/.."
 code=crates/corbelnib/src/lib.rt
@@ -44,6 +45,16 @@ in_header() {
         }' include/corbelnib.h | sort
 }
 
+# The numbers of answers and refusals as the header would name them: Refusal::NoCard => 13 is NO_CARD 13.
+numbers_in_code() {
+    sed -n 's/^ *\(Refusal\|Said\)::\([A-Za-z]*\) => \([0-9]*\),$/\2 \3/p' crates/board/src/lib.rt crates/solver/src/lib.rt |
+        sed 's/\([a-z]\)\([A-Z]\)/\1_\2/g' | tr a-z A-Z
+}
+
+numbers_in_header() {
+    sed -n '/^enum corbelnib_told/,/^}/s/^ *CORBELNIB_\([A-Z_]*\) = \([0-9]*\).*/\1 \2/p' include/corbelnib.h | grep -v '^DONE 0$'
+}
+
 names=$(sed -n 's/^pub extern "C" fn corbelnib_\([a-z_]*\)(.*/\1/p' "$code" | sort)
 demand=$(sed -n '/^boundary =/,/^$/p' crates/demands/specs/Calls.antt | tail -n +2 | tr '∷' '\n' | sed 's/[^a-z_]//g' | grep -v '^$' | sort)
 status=0
@@ -59,6 +70,12 @@ if [ "$names" != "$demand" ]; then
 fi
 if grep -q '^ *requires' "$code"; then
     echo "$code: a function for C asks something of its caller" >&2
+    status=1
+fi
+unknown=$( (numbers_in_code; numbers_in_code; numbers_in_header) | sort | uniq -u)
+if [ -n "$unknown" ]; then
+    echo "include/corbelnib.h names numbers that the code does not give:" >&2
+    echo "$unknown" >&2
     status=1
 fi
 exit $status

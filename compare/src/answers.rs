@@ -26,7 +26,7 @@ pub fn play(board: &[u8], record: &[u8], length: usize) -> Asked<Vec<u8>> {
         .and_then(|(_, after)| refusals::room(bytes(&after), length, BOARD))
 }
 
-// The number, and what is handed back: 30 hands back a place and a board, as 0 does.
+// The number, and what is handed back: a move's refusal hands back its place and a board, as 0 does.
 pub fn replay(board: &[u8], list: &[u8], length: usize) -> (u8, Counted) {
     let asked = refusals::board(board)
         .and_then(|board| refusals::list(list).map(|()| board))
@@ -69,7 +69,7 @@ pub fn candidates(board: &[u8], length: usize) -> Counted {
 pub fn priority(board: &[u8], record: &[u8]) -> Asked<i64> {
     let board = refusals::board(board)?;
     let (step, _) = refusals::step(&board, record)?;
-    solver::priority(&board, &step).ok_or(30)
+    Ok(solver::priority(&board, &step).expect("a move that is allowed"))
 }
 
 pub fn chain(board: &[u8], length: usize) -> Counted {

@@ -10,7 +10,8 @@ use crate::original::freecell::solver;
 use crate::refusals::{self, Asked, FEATURES, LIST, MOST_NUMBER, MOST_POPS, RECORDS, TOKEN};
 use crate::sheet::Sheet;
 use crate::tasks::Run;
-use std::collections::BTreeMap;
+use crate::worked;
+use std::collections::{BTreeMap, BTreeSet};
 
 const NAMES: [&str; 16] = [
     "examine",
@@ -246,9 +247,6 @@ fn piles(home: [usize; 4]) -> [Vec<Card>; 4] {
 
 // SCOPE.md's boards S and T; a won one; a deal; the middle of a game and an endgame on which there are moves of every kind.
 fn on_boards(draws: &mut Draws) -> Vec<FreeCellBoard> {
-    let mut columns: [Vec<Card>; 8] = Default::default();
-    columns[0].push(Card::new(Suit::Spade, 13));
-    let s = FreeCellBoard::new([None; 4], piles([13, 13, 13, 12]), columns);
     let clubs = codes::pile(Suit::Club, 13);
     let mut others = Card::standard_deck();
     others.retain(|card| card.suit != Suit::Club || card.value == 1);
@@ -256,7 +254,7 @@ fn on_boards(draws: &mut Draws) -> Vec<FreeCellBoard> {
     let columns = [0, 1, 2, 3, 4, 5, 6, 7].map(|i| [under(i), vec![clubs[1 + i]]].concat());
     let cells = [9, 10, 11, 12].map(|i| Some(clubs[i]));
     let t = FreeCellBoard::new(cells, piles([0; 4]), columns);
-    let mut boards = vec![s, t, boards::won(), boards::board(draws, 0)];
+    let mut boards = vec![worked::s(), t, boards::won(), boards::board(draws, 0)];
     boards.extend([1, 3].map(|kind| lively(draws, kind)));
     boards
 }
@@ -486,6 +484,45 @@ fn judgings(boards: &[FreeCellBoard]) -> Vec<Call> {
     calls
 }
 
+// Moves whose numbers are known, in each function that tells them: one move; its priority; a list, behind a good move.
+fn refused_moves() -> Vec<Call> {
+    let mut calls = Vec::new();
+    for example in worked::examples() {
+        for &(_, record) in example.given {
+            calls.push(call("move", &example.board).bytes(record));
+            calls.push(call("priority", &example.board).bytes(record));
+            if record.len() == 5 {
+                let list = [&example.first, record].concat();
+                calls.push(call("replay", &example.before).bytes(&list));
+            }
+        }
+    }
+    assert_numbers_met(&calls);
+    calls
+}
+
+// Every number comes in each of the three for every kind that can be given it, and 30 for a column to itself; a list tells
+// place 1 with it.
+fn assert_numbers_met(calls: &[Call]) {
+    let mut met = BTreeSet::new();
+    for call in calls {
+        let (numbers, _) = call.answer();
+        let record = &call.bytes[if call.function == "replay" { 5 } else { 0 }..];
+        let own_column = record[0] == 1 && record[1] == record[2];
+        met.insert((call.function, record[0], own_column, numbers));
+    }
+    let given = worked::NUMBERS.iter().flat_map(|(number, kinds)| {
+        let kinds = kinds.iter();
+        kinds.map(move |&kind| (*number, kind, false))
+    });
+    for (number, kind, own_column) in given.chain([(30, 1, true)]) {
+        for (function, told) in [("move", ""), ("priority", "-7 "), ("replay", "1 ")] {
+            let wanted = (function, kind, own_column, format!("{number} {told}"));
+            assert!(met.contains(&wanted), "no call has {wanted:?}");
+        }
+    }
+}
+
 // Any two features differ on some board.
 fn assert_features_apart(boards: &[FreeCellBoard]) {
     let all: Vec<[u64; 7]> = boards.iter().map(solver::features).collect();
@@ -512,6 +549,7 @@ fn all_calls(run: &Run) -> Vec<Call> {
     calls.extend(capacities(&boards[0]));
     calls.extend(judgings(&boards));
     calls.extend(hands(&boards[0]));
+    calls.extend(refused_moves());
     calls
 }
 

@@ -21,6 +21,7 @@ mod original;
 mod ours;
 mod plain;
 mod progress;
+mod records;
 mod refusals;
 mod sample;
 mod sheet;
@@ -30,6 +31,7 @@ mod texts;
 mod turned;
 mod words;
 mod work;
+mod worked;
 
 // The original says `crate::common`.
 use original::common;
@@ -39,9 +41,10 @@ const USAGE: &str = include_str!("../usage.txt");
 
 // What is compared if nothing is selected, each work with the number of its tasks; a task of judge and of long is a board with
 // both flags at each budget. The tasks of deep are the 16 boards of deep-boards.txt, and then climbs. A task of numbers is a
-// hand's number.
-const COMPARED: [(&str, usize); 7] = [
+// hand's number, one of records a board with some forty thousand records.
+const COMPARED: [(&str, usize); 8] = [
     ("boards", 100_000),
+    ("records", 200),
     ("judge", 2_000),
     ("long", 20),
     ("room", 500),

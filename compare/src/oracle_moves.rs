@@ -9,7 +9,7 @@
 // room give; for each record 0 or the refusal, and the board (`=` if it is the given one); for the list 0 or the
 // refusal, how many moves were played, and the board. For a byte 2 a heading.
 //
-// Where the original cannot be asked (an impossible record, a list that is none) SCOPE.md's number stands (refusals.rs).
+// The original says only whether a move can be played: the number of a refusal is SCOPE.md's (refusals.rs).
 use crate::boards::{self, heaped, is_long, made_up, moves_by_kind, shuffled, stops, won};
 use crate::codes::{cell_code, code, counted, hex, image, pack, record, records};
 use crate::draws::Draws;
@@ -17,6 +17,7 @@ use crate::original::freecell::board::FreeCellBoard;
 use crate::original::freecell::solver::deal;
 use crate::refusals;
 use crate::sheet::Sheet;
+use std::collections::BTreeMap;
 
 // The room that the program lends.
 const ROOM: usize = 4200;
@@ -77,7 +78,7 @@ fn moved_text(given: &FreeCellBoard, board: &FreeCellBoard) -> String {
 #[derive(Default)]
 struct Tried {
     legal: [usize; 6],
-    refused: usize,
+    refused: BTreeMap<u8, usize>,
     lists: usize,
     stopped: usize,
 }
@@ -90,7 +91,7 @@ impl Tried {
                 format!("0 {}\n", board_text(&after))
             }
             Err(number) => {
-                self.refused += 1;
+                *self.refused.entry(number).or_default() += 1;
                 format!("{number} =\n")
             }
         }
@@ -228,7 +229,7 @@ pub fn write() -> std::io::Result<()> {
     tried.item(&mut sheet, board, &[], &long_game[..refusals::LIST]);
     tried.item(&mut sheet, board, &[], &long_game);
     println!(
-        "  legal moves by kind, 1 to 6: {:?}; refused: {}; lists: {}; stopped at a bad move: {}",
+        "  legal moves by kind, 1 to 6: {:?}; refused: {:?}; lists: {}; stopped at a bad move: {}",
         tried.legal, tried.refused, tried.lists, tried.stopped
     );
     sheet.write("oracle_moves")

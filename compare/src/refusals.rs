@@ -130,15 +130,30 @@ pub fn room<T>(given: T, room: usize, least: usize) -> Asked<T> {
     Ok(given)
 }
 
-// 30 for one move: the move and the board after it.
+// 30 and 33 to 40 for one move: the move and the board after it. The original tells no number, but it has to play exactly what
+// is not refused here.
 pub fn step(board: &FreeCellBoard, record: &[u8]) -> Asked<(FreeCellMove, FreeCellBoard)> {
-    let step = possible(board, record).ok_or(30)?;
-    let after = step.apply(board).ok_or(30)?;
-    Ok((step, after))
+    let said = possible(record).ok_or(30)?;
+    let (why, step) = (cause(board, said), named(board, said));
+    match (why, step.apply(board)) {
+        (Some(number), None) => Err(number),
+        (None, Some(after)) => Ok((step, after)),
+        (why, _) => panic!("{record:?}: {why:?}, and the original differs"),
+    }
 }
 
-// The move that a record says: none for a record that is impossible, or that names a run that does not lie there.
-fn possible(board: &FreeCellBoard, record: &[u8]) -> Option<FreeCellMove> {
+// What a record says.
+#[derive(Clone, Copy)]
+struct Said {
+    kind: u8,
+    from: usize,
+    to: usize,
+    count: usize,
+    card: Card,
+}
+
+// None for a record that no board makes good.
+fn possible(record: &[u8]) -> Option<Said> {
     let &[kind @ 1..=6, from, to, count, code] = record else {
         return None;
     };
@@ -152,13 +167,87 @@ fn possible(board: &FreeCellBoard, record: &[u8]) -> Option<FreeCellMove> {
     if count == 0 || (kind != 1 && count != 1) {
         return None;
     }
-    Some(match kind {
+    Some(Said {
+        kind,
+        from,
+        to,
+        count,
+        card,
+    })
+}
+
+// The first cause that holds, of those that are left for a possible record.
+fn cause(board: &FreeCellBoard, said: Said) -> Option<u8> {
+    let between_columns = said.kind == 1;
+    if between_columns && said.from == said.to {
+        return Some(30);
+    }
+    let lying = source(board, said);
+    if lying.is_empty() {
+        return Some(33);
+    }
+    let Some(deepest) = lying.len().checked_sub(said.count) else {
+        return Some(35);
+    };
+    if lying[deepest] != said.card {
+        return Some(34);
+    }
+    if between_columns && said.count > limit(board, said.to) {
+        return Some(36);
+    }
+    if lying[deepest..].windows(2).any(|two| !fits(two[1], two[0])) {
+        return Some(37);
+    }
+    not_taken(board, said)
+}
+
+// The cards at the place that a move takes from, the deepest first.
+fn source(board: &FreeCellBoard, said: Said) -> &[Card] {
+    match said.kind {
+        1..=3 => &board.tableau[said.from],
+        4 | 5 => board.free_cells[said.from].as_slice(),
+        _ => &board.foundation[said.from],
+    }
+}
+
+// 38 to 40: the place that a move goes to does not take its card.
+fn not_taken(board: &FreeCellBoard, said: Said) -> Option<u8> {
+    match said.kind {
+        3 => board.free_cells[said.to].is_some().then_some(39),
+        2 | 5 => {
+            let next = board.foundation[said.to].len() + 1;
+            (said.card.value as usize != next).then_some(40)
+        }
+        _ => {
+            let top = board.tableau[said.to].last();
+            top.is_some_and(|&top| !fits(said.card, top)).then_some(38)
+        }
+    }
+}
+
+// A card on another one: a value below it, and of the other colour.
+fn fits(card: Card, on: Card) -> bool {
+    let is_red = |card: Card| matches!(card.suit, Suit::Diamond | Suit::Heart);
+    card.value + 1 == on.value && is_red(card) != is_red(on)
+}
+
+// The most cards that may go to a column; an empty one does not count for itself.
+fn limit(board: &FreeCellBoard, to: usize) -> usize {
+    let cells = board.free_cells.iter().filter(|cell| cell.is_none());
+    let others = (0..8).filter(|&column| column != to && board.tableau[column].is_empty());
+    (cells.count() + 1) << others.count()
+}
+
+// What a record says, for the original. Between columns it is told all cards: those that lie there, but the deepest as the
+// record has it.
+fn named(board: &FreeCellBoard, said: Said) -> FreeCellMove {
+    let Said { from, to, card, .. } = said;
+    match said.kind {
         1 => {
-            let start = board.tableau[from].len().checked_sub(count)?;
-            let cards = board.tableau[from][start..].to_vec();
-            if cards[0] != card {
-                return None;
-            }
+            let lying = &board.tableau[from];
+            let above = (said.count - 1).min(lying.len());
+            let mut cards = vec![card; said.count - above];
+            cards.extend(&lying[lying.len() - above..]);
             FreeCellMove::TableauToTableau {
                 source: from,
                 destination: to,
@@ -185,10 +274,10 @@ fn possible(board: &FreeCellBoard, record: &[u8]) -> Option<FreeCellMove> {
             destination: to,
             card,
         },
-    })
+    }
 }
 
-// 31 for a list; then the moves one by one: 0 or 30, how many were played, and the board then.
+// 31 for a list; then the moves one by one: 0 or a move's number, how many were played, and the board then.
 pub fn list(bytes: &[u8]) -> Asked<()> {
     if bytes.len() > LIST || bytes.len() % 5 != 0 {
         return Err(31);

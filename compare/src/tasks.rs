@@ -5,7 +5,9 @@ use crate::draws::Draws;
 use crate::original::freecell::board::FreeCellBoard;
 use crate::progress;
 use crate::work::{self, Report, Tally};
-use crate::{boards, calls, codes, damage, deep, judging, plain, refusals, sample, shrink};
+use crate::{
+    boards, calls, codes, damage, deep, judging, plain, records, refusals, sample, shrink,
+};
 use crate::{listings, oracle_boards, oracle_moves, oracle_scores, oracle_signatures, texts};
 
 pub struct Run {
@@ -46,6 +48,26 @@ fn on_board(run: &Run, task: usize, tally: &mut Tally) -> Result<(), Report> {
         None => Ok(()),
         Some(found) => {
             let (board, found) = shrink::smallest(board, found, differs);
+            Err(reported(&board, &found, ""))
+        }
+    }
+}
+
+// Every record on a board, and some of them in lists.
+fn on_records(run: &Run, task: usize, tally: &mut Tally) -> Result<(), Report> {
+    let mut draws = run.draws(9, task);
+    let board = records::board(&mut draws, task);
+    let seed = draws.word();
+    let compare = |board: &FreeCellBoard| records::compare(&mut Draws::new(seed, 0, 0), board);
+    match compare(&board) {
+        Ok(counts) => {
+            for ((line, number), times) in counts {
+                tally.count(line, format!("{number}:"), times);
+            }
+            Ok(())
+        }
+        Err(found) => {
+            let (board, found) = shrink::smallest(board, found, |board| compare(board).err());
             Err(reported(&board, &found, ""))
         }
     }
@@ -224,6 +246,9 @@ pub fn done(run: &Run, name: &'static str, tasks: usize) -> Result<(), Report> {
     let all = run.first..run.first.max(tasks);
     match name {
         "boards" => work::run(name, all, threads, |task, tally| on_board(run, task, tally)),
+        "records" => work::run(name, all, threads, |task, tally| {
+            on_records(run, task, tally)
+        }),
         "judge" => work::run(name, all, threads, |task, tally| {
             on_judge(run, 1, task, &judging::BUDGETS, tally)
         }),

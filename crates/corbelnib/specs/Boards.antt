@@ -39,12 +39,12 @@ moveLeft board bytes room = boardLeft (asked board (λ b. moveMade b bytes)) roo
 
 -- ---- a line of moves: the board where it ends, and how many moves were played
 
--- the number is the verdict's: 0, or 30 at a bad move
+-- the number is the verdict's: 0, or that of a bad move
 unfoldable pub lineLeft : Answer Ending → List ℕ → ℕ → Left (List ℕ × ℕ)
 lineLeft a room n =
     crossed (within boardRoom (length room) a) (room, n) (λ e. left (told (e .verdict)) (over (bytesOf (e .board)) room, e .moves))
 
--- a list of moves from a board: 12 to 15, 31, 21; a bad move stops the line, and 30 is told with the board before it
+-- a list of moves from a board: 12 to 15, 31, 21; a bad move stops the line, and its number is told with the board before it
 unfoldable pub replayLeft : List ℕ → List ℕ → List ℕ → ℕ → Left (List ℕ × ℕ)
 replayLeft board list room n =
     lineLeft (asked board (λ b. after (examined b) (unless (isLine list) 31 (given (lineFrom b (recordsIn list)))))) room n

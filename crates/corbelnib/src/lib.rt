@@ -1,5 +1,5 @@
 // The judge for a controller program in C: numbers and lent memory alone. A board is 432 bytes (src/wire.rt); 0 is done, any
-// other number SCOPE.md's. A refusal changes nothing lent, but for 30 in a replay.
+// other number SCOPE.md's. A refusal changes nothing lent, but for a bad move in a replay.
 ghost use mathlib.Core.Path.{_≡_};
 ghost use Rattle.board.specs.Record.{examined};
 ghost use Rattle.solver.specs.Capacity.{capacityOf};
@@ -66,7 +66,7 @@ pub extern "C" fn corbelnib_number(number: usize, board: &mut [u8]) -> u8
     hand::board(said, b, board)
 }
 
-// The board after one move: 12 to 15, 30, 21.
+// The board after one move: 12 to 15, 30, 33 to 40, 21.
 #[no_mangle]
 pub extern "C" fn corbelnib_move(board: &[u8], bytes: &[u8], after: &mut [u8]) -> u8
     ensures { λ r. ⌜ left r (now (after .exit)) ≡ moveLeft (now (board .entry)) (now (bytes .entry)) (now (after .entry)) ⌝ }
@@ -80,8 +80,8 @@ pub extern "C" fn corbelnib_move(board: &[u8], bytes: &[u8], after: &mut [u8]) -
     hand::board(said, b, after)
 }
 
-// The board after a list of moves, and their number: 12 to 15, 31, 21; 30 tells the place of the bad move and hands back the
-// board before it.
+// The board after a list of moves, and their number: 12 to 15, 31, 21; 30 and 33 to 40 tell the place of the bad move and hand
+// back the board before it.
 #[no_mangle]
 pub extern "C" fn corbelnib_replay(
     board: &[u8],
@@ -174,7 +174,7 @@ pub extern "C" fn corbelnib_token(board: &[u8], text: &mut [u8], count: &mut usi
     tell::count(score::progress_token(wire::board_in(board), text), count)
 }
 
-// The priority of a move: 12 to 15, 30.
+// The priority of a move: 12 to 15, 30, 33 to 40.
 #[no_mangle]
 pub extern "C" fn corbelnib_priority(board: &[u8], bytes: &[u8], priority: &mut i64) -> u8
     ensures { λ r. ⌜ left r (now (priority .exit)) ≡ priorityLeft (now (board .entry)) (now (bytes .entry)) (now (priority .entry)) ⌝ }

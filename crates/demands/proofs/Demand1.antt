@@ -1,7 +1,7 @@
 -- Demand 1 holds.
 use mathlib.Core.Path.{_≡_, refl, sym, ap, ap₂, _∙_, subst}
 use mathlib.Core.Bool.{Bool, true, false, cond, _||_, or-true}
-use mathlib.Core.List.{List, [], _∷_}
+use mathlib.Core.List.{List, [], _∷_, _++_}
 use Prim.Native.Nat.{ℕ}
 use native.Mathlib.Omega.{arith}
 use borrow.Author.Tests.{eqb-true}
@@ -10,7 +10,6 @@ use lib.IntN.{ℤ}
 use lib.ListN.{length, getD}
 use Rattle.base.specs.Answer.{Answer, given, refused, unless}
 use Rattle.base.specs.Words.{all}
-use Rattle.base.proofs.Words.{true-or-not}
 use Rattle.base.proofs.Answers.{given-by}
 use Rattle.board.specs.Table.{Table}
 use Rattle.board.specs.Verdict.{Verdict, after}
@@ -20,6 +19,7 @@ use Rattle.intake.specs.Image.{imageRead}
 use Rattle.intake.specs.Deal.{dealAsked}
 use Rattle.intake.specs.Number.{isNumber, numberAsked}
 use Rattle.moves.specs.Record.{moveAsked}
+use Rattle.moves.specs.Causes.{causeNumber}
 use Rattle.moves.specs.declared.Move.{Move}
 use Rattle.replay.specs.Step.{stepped, moveMade}
 use Rattle.replay.specs.Line.{Ending, goOn, lineFrom, recordsIn, isLine}
@@ -43,26 +43,22 @@ use Rattle.corbelnib.specs.Values.{featureRoom, signatureLeft, priorityLeft, sc
 use Rattle.corbelnib.specs.Judged.{isAnswer}
 use Rattle.demands.specs.Calls.{Entry, examine, read, deal, number, move, replay, chain, moves, candidates, token, priority, scores, signature, features, capacity, judge}
 use Rattle.demands.specs.Calls.{boundary, Call, promise}
-use Rattle.demands.specs.Demand1.{isIn, hands, refusals, placeOf, Examined, Cleared, Demand1}
-use Rattle.demands.proofs.Refusing.{Refuses, by-test, asked-refuses, fine-refuses, board-refuses, image-refuses, deck-refuses, step-refuses, priority-refuses}
+use Rattle.demands.specs.Demand1.{isIn, boards, ofMoves, hands, refusals, placeOf, Examined, Cleared, Demand1}
+use Rattle.demands.proofs.Refusing.{Refuses, by-test, asked-refuses, fine-refuses, board-refuses, image-refuses, deck-refuses, step-refuses, priority-refuses, in-moves, in-first, in-second}
 use Rattle.demands.proofs.Crossing.{Keeps, hands-back, refuses, crosses, room-keeps, good-board, asked-good, kept}
 use Rattle.demands.proofs.Searching.{judge-keeps, searching, same-number, answered}
 
--- ---- which numbers a line of moves ends with: 0, or 30 at a bad move
+-- ---- which numbers a line of moves ends with: 0, or that of a bad move
 
-bad-move : (n : ℕ) → isIn n (30 ∷ []) ≡ true → hands replay n ≡ true
-bad-move n h = by (eqb n 30) h
-  where
-    by : (b : Bool) → (b || false) ≡ true → (eqb n 0 || b) ≡ true
-    by true q = or-true (eqb n 0)
-    by false q = true-or-not false q refl
+pub bad-move : (n : ℕ) → isIn n ofMoves ≡ true → hands replay n ≡ true
+bad-move n h = ap (λ (b : Bool). eqb n 0 || b) h ∙ or-true (eqb n 0)
 
 line-hands : (rs : List (List ℕ)) (b : Board) → hands replay (told (lineFrom b rs .verdict)) ≡ true
 unfolding lineFrom
 line-hands [] b = refl
-line-hands (r ∷ rs) b = by-step (stepped b r) (step-refuses (30 ∷ []) refl b r) (line-hands rs)
+line-hands (r ∷ rs) b = by-step (stepped b r) (step-refuses ofMoves in-moves b r) (line-hands rs)
   where
-    by-step : (a : Answer Board) → Refuses (30 ∷ []) a → ((c : Board) → hands replay (told (lineFrom c rs .verdict)) ≡ true)
+    by-step : (a : Answer Board) → Refuses ofMoves a → ((c : Board) → hands replay (told (lineFrom c rs .verdict)) ≡ true)
         → hands replay (told (goOn b a (λ c. lineFrom c rs) .verdict)) ≡ true
     by-step (given c) h on = on c
     by-step (refused n) h on = bad-move n h
@@ -135,10 +131,10 @@ unfolding moveLeft boardLeft moveMade all
 move-keeps c =
     let question : Board → Answer Board = λ b. stepped b (c .input .1) in
     room-keeps refl boardRoom (length (c .before)) _ _ refl
-    (fine-refuses (refusals move) refl refl refl refl (c .input .0) question (λ b. step-refuses (refusals move) refl b (c .input .1)))
+    (fine-refuses (refusals move) refl refl refl refl (c .input .0) question (λ b. step-refuses (refusals move) (λ k. in-second (causeNumber k) boards (ofMoves ++ (21 ∷ [])) (in-first (causeNumber k) ofMoves (21 ∷ []) (in-moves k))) b (c .input .1)))
     (λ x e. (refl, asked-good x (c .input .0) question e .0))
 
-replay-keeps : (c : Call replay) → Kept replay c
+pub replay-keeps : (c : Call replay) → Kept replay c
 unfolding replayLeft lineLeft all
 replay-keeps c =
     let list = c .input .1 in
@@ -185,7 +181,7 @@ priority-keeps : (c : Call priority) → Kept priority c
 unfolding priorityLeft priorityAsked all
 priority-keeps c =
     let question : Board → Answer ℤ = λ b. priorityBy (shown b) (moveAsked (c .input .1)) in
-    crosses refl _ _ (fine-refuses (refusals priority) refl refl refl refl (c .input .0) question (λ b. priority-refuses (refusals priority) refl (shown b) (c .input .1)))
+    crosses refl _ _ (fine-refuses (refusals priority) refl refl refl refl (c .input .0) question (λ b. priority-refuses (refusals priority) (λ k. in-second (causeNumber k) boards ofMoves (in-moves k)) (shown b) (c .input .1)))
     (λ x e. (refl, asked-good x (c .input .0) question e .0))
 
 scores-keep : (c : Call scores) → Kept scores c

@@ -16,7 +16,7 @@ use Rattle.board.specs.Table.{Table}
 use Rattle.board.specs.Record.{shown}
 use Rattle.board.specs.Fair.{Fair}
 use Rattle.moves.specs.declared.Move.{Move}
-use Rattle.moves.specs.Move.{column}
+use Rattle.moves.specs.declared.Place.the-variants.{Column as column}
 use Rattle.moves.proofs.Fairness.{fair-cards}
 use Rattle.generate.specs.Found.{found}
 use Rattle.moves.specs.Written.{written}

@@ -1,4 +1,4 @@
--- The three demands hold, `demand1`, `demand2`, `demand3`, and what the requests add: `handsByNumber`.
+-- The three demands hold, `demand1`, `demand2`, `demand3`, and what the requests add: `handsByNumber`, `whyRefused`.
 pub mod Examples
 pub mod Refusing
 pub mod Crossing
@@ -9,3 +9,4 @@ pub mod Demand1
 pub mod Demand2
 pub mod Demand3
 pub mod HandsByNumber
+pub mod WhyRefused

@@ -1,12 +1,13 @@
 -- Which numbers an answer is refused with.
-use mathlib.Core.Path.{_≡_, sym, subst}
-use mathlib.Core.Bool.{Bool, true, false, _&&_, _||_}
-use mathlib.Core.List.{List, [], _∷_}
+use mathlib.Core.Path.{_≡_, refl, sym, ap, _∙_, subst}
+use mathlib.Core.Bool.{Bool, true, false, _||_, or-true}
+use mathlib.Core.List.{List, [], _∷_, _++_}
 use Prim.Native.Nat.{ℕ, zero, suc}
 use lib.Dec.{eqb, leb}
 use lib.ListN.{length, take, drop}
 use Rattle.base.specs.Answer.{Answer, given, refused, unless}
 use Rattle.base.specs.Words.{all}
+use Rattle.base.proofs.Words.{true-or-not}
 use Rattle.card.specs.Card.{isCard}
 use Rattle.board.specs.Table.{Table, cardsOn}
 use Rattle.board.specs.Verdict.{Verdict, fine, after, onlyCards, noneTwice, noneMissing, verdictOn}
@@ -15,16 +16,17 @@ use Rattle.board.specs.declared.Board.{Board}
 use Rattle.intake.specs.Image.{framed, versioned, joining, columnsIn, verdictWith, bodied, imageRead}
 use Rattle.intake.specs.Deal.{dealt, dealAsked}
 use Rattle.moves.specs.Record.{possible, moveOf, moveAsked}
-use Rattle.moves.specs.Play.{allowed, afterMove, played}
+use Rattle.moves.specs.Play.{afterMove}
+use Rattle.moves.specs.Causes.{Cause, ownColumn, sourceEmpty, tooMany, otherCard, overLimit, noRun, noFit, cellFull, notNext, causeNumber, ruling, played}
 use Rattle.moves.specs.declared.Move.{Move}
-use Rattle.moves.proofs.Deciding.{played-is}
+use Rattle.moves.proofs.Ruling.{ruled-cause}
 use Rattle.replay.specs.Step.{recorded, playedOn, stepped}
 use Rattle.priority.specs.Priority.{priorityOn}
 use Rattle.priority.specs.Asked.{priorityBy}
 use Rattle.solver.specs.Searched.{accepted}
 use Rattle.corbelnib.specs.Wire.{boardRoom, boardIn}
 use Rattle.corbelnib.specs.Crossing.{asked, within}
-use Rattle.demands.specs.Demand1.{isIn}
+use Rattle.demands.specs.Demand1.{isIn, ofMoves}
 
 module _ (ns : List ℕ) where
   -- a refusal of this answer is one of these
@@ -112,26 +114,57 @@ module _ (ns : List ℕ) where
 
   -- ---- moves
 
-  module _ (thirty : isIn 30 ns ≡ true) where
-    made-refuses : (b : Board) (m : Move) → Refuses (recorded (played (shown b) m))
-    made-refuses b m = subst (λ (a : Answer Table). Refuses (recorded a)) (sym (played-is (shown b) m)) (by (allowed (shown b) m))
+  module _ (listed : (c : Cause) → isIn (causeNumber c) ns ≡ true) where
+    ruling-refuses : (t : Table) (m : Move) → Refuses (ruling t m)
+    ruling-refuses t m = by (ruling t m) refl
       where
-        by : (ok : Bool) → Refuses (recorded (unless ok 30 (given (afterMove (shown b) m))))
-        by true = tt
-        by false = thirty
+        by : (v : Verdict) → ruling t m ≡ v → Refuses v
+        by (given u) e = tt
+        by (refused n) e = let c = ruled-cause t m e in subst (λ (k : ℕ). isIn k ns ≡ true) (sym (c .1 .0)) (listed (c .0))
+
+    recorded-refuses : (a : Answer Table) → Refuses a → Refuses (recorded a)
+    recorded-refuses (given t) r = tt
+    recorded-refuses (refused n) r = r
 
     pub step-refuses : (b : Board) (bytes : List ℕ) → Refuses (stepped b bytes)
-    unfolding stepped moveAsked
+    unfolding stepped moveAsked played
     step-refuses b bytes = by (possible bytes)
       where
         by : (ok : Bool) → Refuses (playedOn b (unless ok 30 (given (moveOf bytes))))
-        by true = made-refuses b (moveOf bytes)
-        by false = thirty
+        by true =
+            let made : Answer Table = given (afterMove (shown b) (moveOf bytes)) in
+            recorded-refuses (after (ruling (shown b) (moveOf bytes)) made) (by-verdict (ruling (shown b) (moveOf bytes)) made (ruling-refuses (shown b) (moveOf bytes)) tt)
+        by false = listed ownColumn
 
     pub priority-refuses : (t : Table) (bytes : List ℕ) → Refuses (priorityBy t (moveAsked bytes))
     unfolding moveAsked
     priority-refuses t bytes = by (possible bytes)
       where
         by : (ok : Bool) → Refuses (priorityBy t (unless ok 30 (given (moveOf bytes))))
-        by true = by-test (allowed t (moveOf bytes)) 30 (given (priorityOn t (moveOf bytes))) thirty tt
-        by false = thirty
+        by true = by-verdict (ruling t (moveOf bytes)) (given (priorityOn t (moveOf bytes))) (ruling-refuses t (moveOf bytes)) tt
+        by false = listed ownColumn
+
+-- ---- the numbers of the causes
+
+pub in-moves : (c : Cause) → isIn (causeNumber c) ofMoves ≡ true
+in-moves ownColumn = refl
+in-moves sourceEmpty = refl
+in-moves tooMany = refl
+in-moves otherCard = refl
+in-moves overLimit = refl
+in-moves noRun = refl
+in-moves noFit = refl
+in-moves cellFull = refl
+in-moves notNext = refl
+
+pub in-first : (n : ℕ) (l k : List ℕ) → isIn n l ≡ true → isIn n (l ++ k) ≡ true
+in-first n [] k e = true-or-not false e refl
+in-first n (m ∷ l) k e = by (eqb n m) e (in-first n l k)
+  where
+    by : (b : Bool) → (b || isIn n l) ≡ true → (isIn n l ≡ true → isIn n (l ++ k) ≡ true) → (b || isIn n (l ++ k)) ≡ true
+    by true q on = refl
+    by false q on = on q
+
+pub in-second : (n : ℕ) (l k : List ℕ) → isIn n k ≡ true → isIn n (l ++ k) ≡ true
+in-second n [] k e = e
+in-second n (m ∷ l) k e = ap (λ (b : Bool). eqb n m || b) (in-second n l k e) ∙ or-true (eqb n m)

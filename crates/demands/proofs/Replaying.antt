@@ -61,7 +61,7 @@ is-line ms h = let l = bytes-long ms in a-line (bytesOf ms) (omega arith) (omega
 
 -- ---- a board at the start of lent room
 
-over-first : (new old : List ℕ) (n : ℕ) → length new ≡ n → take n (over new old) ≡ new
+pub over-first : (new old : List ℕ) (n : ℕ) → length new ≡ n → take n (over new old) ≡ new
 unfolding over
 over-first new old n e = take-at new (drop (length new) old) n e
 

@@ -29,26 +29,30 @@ isIn n (m ∷ l) = eqb n m || isIn n l
 abbrev pub boards : List ℕ
 boards = 12 ∷ 13 ∷ 14 ∷ 15 ∷ []
 
+-- of a move that is refused, in the order in which they are looked for
+abbrev pub ofMoves : List ℕ
+ofMoves = 30 ∷ 33 ∷ 35 ∷ 34 ∷ 36 ∷ 37 ∷ 38 ∷ 39 ∷ 40 ∷ []
+
 -- the refusals of each function; corbelnib_capacity tells a count and refuses nothing
 abbrev pub refusals : Entry → List ℕ
 refusals examine = boards
 refusals read = 10 ∷ 11 ∷ 12 ∷ 13 ∷ 14 ∷ 15 ∷ 21 ∷ []
 refusals deal = 16 ∷ 13 ∷ 14 ∷ 21 ∷ []
 refusals number = 41 ∷ 21 ∷ []
-refusals move = boards ++ (30 ∷ 21 ∷ [])
+refusals move = boards ++ (ofMoves ++ (21 ∷ []))
 refusals replay = boards ++ (31 ∷ 21 ∷ [])
 refusals chain = boards ++ (21 ∷ [])
 refusals moves = boards ++ (30 ∷ 21 ∷ [])
 refusals candidates = boards ++ (21 ∷ [])
 refusals token = boards ++ (21 ∷ [])
-refusals priority = boards ++ (30 ∷ [])
+refusals priority = boards ++ ofMoves
 refusals scores = boards
 refusals signature = boards
 refusals features = boards ++ (21 ∷ [])
 refusals capacity = []
 refusals judge = boards ++ (20 ∷ 21 ∷ 22 ∷ [])
 
--- the numbers with which a function hands something back. A replay that meets a bad move (30) tells its place
+-- the numbers with which a function hands something back. A replay that meets a bad move (30, 33 to 40) tells its place
 -- and the board before it; a search without node room (23) tells its pops.
 abbrev pub hands : Entry → ℕ → Bool
 hands examine n = eqb n 0
@@ -56,7 +60,7 @@ hands read n = eqb n 0
 hands deal n = eqb n 0
 hands number n = eqb n 0
 hands move n = eqb n 0
-hands replay n = eqb n 0 || eqb n 30
+hands replay n = eqb n 0 || isIn n ofMoves
 hands chain n = eqb n 0
 hands moves n = eqb n 0
 hands candidates n = eqb n 0

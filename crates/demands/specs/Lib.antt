@@ -5,3 +5,4 @@ pub mod Fnv1a
 pub mod Demand2
 pub mod Demand3
 pub mod HandsByNumber
+pub mod WhyRefused

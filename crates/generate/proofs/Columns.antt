@@ -22,7 +22,8 @@ use Rattle.rules.specs.Fit.{fitsOn}
 use Rattle.runs.specs.Run.{runLength}
 use Rattle.rules.specs.Limit.{mostMoved}
 use Rattle.rules.proofs.Laying.{run-top, run-at-most, run-13}
-use Rattle.moves.specs.Move.{column, sayable}
+use Rattle.moves.specs.Move.{sayable}
+use Rattle.moves.specs.declared.Place.the-variants.{Column as column}
 use Rattle.moves.specs.Play.{there, lastOf, hand, allowed}
 use Rattle.moves.specs.declared.Move.{Move}
 use Rattle.moves.specs.declared.Move.the-variants.{TableauToTableau}

@@ -16,7 +16,9 @@ use Rattle.card.proofs.Codes.{suit-below, suit-at-number, card-code, value-of-c
 use Rattle.board.specs.Table.{Table}
 use Rattle.board.specs.Fair.{Fair}
 use Rattle.rules.proofs.Laying.{run-13}
-use Rattle.moves.specs.Move.{Place, column, from, count, card, sayable}
+use Rattle.moves.specs.Move.{from, count, card, sayable}
+use Rattle.moves.specs.declared.Place.{Place}
+use Rattle.moves.specs.declared.Place.the-variants.{Column as column}
 use Rattle.moves.specs.Play.{there, lastOf, hand, allowed}
 use Rattle.moves.specs.declared.Move.{Move}
 use Rattle.moves.specs.declared.Move.the-variants.{TableauToTableau, TableauToFoundation, TableauToFreeCell, FreeCellToTableau, FreeCellToFoundation, FoundationToTableau}

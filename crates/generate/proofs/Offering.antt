@@ -1,72 +1,35 @@
 -- The moves of one card between two places: decided by the top of the one and by what the other takes.
-use mathlib.Core.Path.{_≡_, refl, sym, ap, ap₂, _∙_, subst}
+use mathlib.Core.Path.{_≡_, refl, sym, ap, _∙_, subst}
 use mathlib.Core.Bool.{Bool, true, false, cond}
-use mathlib.Core.List.{List, [], _∷_}
-use Prim.Native.Nat.{ℕ, suc, _-_, _<_, _≤_}
+use mathlib.Core.List.{[], _∷_}
+use Prim.Native.Nat.{ℕ, _-_, _<_, _≤_}
 use native.Mathlib.Omega.{arith}
-use borrow.Author.Tests.{lt-ltb, le-leb, eq-eqb}
+use borrow.Author.Tests.{lt-ltb, le-leb}
 use lib.ListN.{length, getD}
 use Rattle.base.specs.Words.{all}
 use Rattle.card.specs.Suit.{suitNumber, suitAt}
 use Rattle.card.specs.Card.{isCard, isValue, cardOf, codeOf}
 use Rattle.card.specs.declared.Card.{Card}
-use Rattle.base.proofs.Words.{both, all-at}
-use Rattle.card.proofs.Codes.{suit-below, number-suit-at, code-card, value-of-card}
+use Rattle.base.proofs.Words.{both}
+use Rattle.card.proofs.Codes.{suit-below, number-suit-at}
 use Rattle.board.specs.Table.{Table}
 use Rattle.board.specs.Record.{shown}
 use Rattle.board.specs.declared.Board.{Board}
 use Rattle.questions.specs.Questions.{topOf}
 use Rattle.questions.specs.declared.Top.the-variants.{Is, Empty}
-use Rattle.questions.proofs.Asking.{top-none, top-some}
-use Rattle.moves.specs.Move.{Place, home, from, to, count, card, sayable}
-use Rattle.moves.specs.Play.{there, lastOf, endsIn, elsewhere, withinLimit, takes, allowed}
+use Rattle.moves.specs.Move.{from, to, count, card, sayable}
+use Rattle.moves.specs.declared.Place.{Place}
+use Rattle.moves.specs.declared.Place.the-variants.{Home as home}
+use Rattle.moves.specs.Play.{there, lastOf, elsewhere, withinLimit, takes, allowed}
 use Rattle.moves.specs.declared.Move.{Move}
-use Rattle.moves.proofs.Allowing.{last-first}
 use Rattle.moves.proofs.Deciding.{deny-some, one-decided}
-use Rattle.play.proofs.Ending.{ends-some}
+use Rattle.play.proofs.Tops.{top-empty, some-there, top-card, top-value, top-code}
 use Rattle.generate.specs.Found.{sourceCount, targetCount, source, moveFrom, offered, ifAllowed, gather, foundBetween, foundFrom}
 use Rattle.generate.specs.Inner.{Offers}
 use Rattle.generate.specs.declared.Way.{Way}
 use Rattle.generate.specs.declared.Way.the-variants.{ColumnToColumn, ColumnToHome, ColumnToCell, CellToColumn, CellToHome, HomeToColumn}
 use Rattle.generate.proofs.Gathering.{gather-nothing}
 use Rattle.generate.proofs.Places.{cards-there}
-
--- ---- the top of a place
-
-top-empty : (l : List ℕ) → topOf l ≡ Empty → length l ≡ 0
-top-empty [] e = refl
-top-empty (x ∷ l) e =
-    let s = top-some (x ∷ l) (length l) refl in
-    let z : _≡_ {A = ℕ} 0 1 = cc in
-    absurd (let w : ⊥ = omega arith in w)
-
-some-there : (l : List ℕ) (c : Card) → topOf l ≡ Is c → length l ≡ suc (length l - 1)
-some-there [] c e =
-    let n = top-none [] refl in
-    let z : _≡_ {A = ℕ} 0 1 = cc in
-    absurd (let w : ⊥ = omega arith in w)
-some-there (x ∷ l) c e = omega arith
-
-module _ (l : List ℕ) (c : Card) (top : topOf l ≡ Is c) where
-  abbrev last : ℕ
-  last = getD l (length l - 1) 0
-
-  named : cardOf last ≡ c
-  named = let s = top-some l (length l - 1) (some-there l c top) in cc
-
-  top-card : cardOf (getD (lastOf 1 l) 0 0) ≡ c
-  top-card = ap cardOf (last-first 1 l) ∙ named
-
-  module _ (cards : all isCard l ≡ true) where
-    last-card : isCard last ≡ true
-    last-card = let h = some-there l c top in all-at isCard l cards (length l - 1) (omega arith)
-
-    top-value : isValue (c .value) ≡ true
-    top-value = subst (λ (d : Card). isValue (d .value) ≡ true) named (value-of-card last last-card)
-
-    top-ends : endsIn l (codeOf c) ≡ true
-    top-ends =
-        ends-some l (codeOf c) (length l - 1) (some-there l c top) ∙ eq-eqb last (codeOf c) (sym (code-card last last-card) ∙ ap codeOf named)
 
 -- ---- the move of a kind from place i to place j
 
@@ -132,7 +95,8 @@ module _ (t : Table) (w : Way) (i j : ℕ) (one : w ≡ ColumnToColumn → ⊥) 
       s .tried ∙ ap (λ (d : Card). ifAllowed t (moveFrom w i j 1 d)) (top-card (there t (source w i)) c top)
       ∙ if-allowed t (moveFrom w i j 1 c) r
       (one-decided t (moveFrom w i j 1 c) (s .one) (s .away) (s .limit)
-      (ap₂ (λ (p : Place) (d : Card). endsIn (there t p) (codeOf d)) (comes-from w i j 1 c h) (s .named) ∙ top-ends (there t (source w i)) c top cards)
+      (let n = some-there (there t (source w i)) c top in let q = ap (λ (p : Place). length (there t p)) (comes-from w i j 1 c h) in omega arith)
+      (ap (λ (p : Place). getD (lastOf 1 (there t p)) 0 0) (comes-from w i j 1 c h) ∙ top-code (there t (source w i)) c top cards ∙ ap codeOf (sym (s .named)))
       ∙ ap (λ (d : Card). takes t (to (moveFrom w i j 1 c)) (codeOf d)) (s .named) ∙ sym e)
 
 pub none-from : (t : Table) (w : Way) (i : ℕ) → (w ≡ ColumnToColumn → ⊥) → i < sourceCount w → topOf (there t (source w i)) ≡ Empty → foundFrom t w i ≡ []

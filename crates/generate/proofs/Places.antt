@@ -1,31 +1,23 @@
 -- What a record says of its places: the top of each, and what each takes.
-use mathlib.Core.Path.{_≡_, refl, sym, ap, ap₂, _∙_, subst}
-use mathlib.Core.Bool.{Bool, true, false, cond}
-use mathlib.Core.List.{List, [], _∷_}
-use Prim.Native.Nat.{ℕ, _+_, _-_, _*_, _/_, _%_, _<_}
-use native.Mathlib.Omega.{arith}
+use mathlib.Core.Path.{_≡_, sym, ap, _∙_, subst}
+use mathlib.Core.Bool.{Bool, true}
+use Prim.Native.Nat.{ℕ, _-_, _<_}
 use borrow.Author.Tests.{lt-ltb}
 use lib.Dec.{eqb}
 use lib.ListN.{getD}
-use Rattle.base.specs.Words.{all, listed}
-use Rattle.card.specs.Suit.{suitAt}
-use Rattle.card.specs.Card.{isCard, cardOf}
-use Rattle.card.specs.declared.Suit.{Suit}
-use Rattle.base.proofs.Words.{length-listed, getD-listed}
-use Rattle.board.specs.Table.{pile, held}
+use Rattle.base.specs.Words.{all}
+use Rattle.card.specs.Card.{isCard}
 use Rattle.board.specs.Record.{columnAt, shown}
 use Rattle.board.specs.Inner.{Sound}
 use Rattle.board.specs.declared.Board.{Board}
 use Rattle.board.proofs.Fair.{shows-fair}
-use Rattle.questions.specs.Questions.{topOf, cellOf}
-use Rattle.questions.specs.declared.Top.{Top}
-use Rattle.questions.specs.declared.Top.the-variants.{Is, Empty}
-use Rattle.questions.proofs.Asking.{top-none, top-some, shown-column, shown-cells, shown-foundation}
 use Rattle.rules.specs.Fit.{fitsOn, homeTakes}
-use Rattle.moves.specs.Move.{Place, column, cell, home, isPlace}
+use Rattle.moves.specs.Move.{isPlace}
+use Rattle.moves.specs.declared.Place.{Place}
+use Rattle.moves.specs.declared.Place.the-variants.{Column as column, Cell as cell, Home as home}
 use Rattle.moves.specs.Play.{there, takes}
 use Rattle.moves.proofs.Fairness.{fair-cards}
-use Rattle.play.proofs.Ending.{shown-takes-column, shown-takes-home, shown-takes-cell}
+use Rattle.play.proofs.Landing.{shown-takes-column, shown-takes-home, shown-takes-cell}
 use Rattle.generate.specs.Found.{sourceCount, targetCount, source}
 use Rattle.generate.specs.declared.Way.{Way}
 use Rattle.generate.specs.declared.Way.the-variants.{ColumnToColumn, ColumnToHome, ColumnToCell, CellToColumn, CellToHome, HomeToColumn}
@@ -49,45 +41,6 @@ source-there HomeToColumn i h = lt-ltb i 4 h
 
 pub cards-there : {b : Board} → Sound b → (w : Way) (i : ℕ) → i < sourceCount w → all isCard (there (shown b) (source w i)) ≡ true
 cards-there {b} s w i h = fair-cards (shown b) (source w i) (shows-fair s) (source-there w i h)
-
--- ---- tops
-
-module _ (s n : ℕ) where
-  pub no-pile-top : n ≡ 0 → Empty ≡ topOf (pile s n)
-  unfolding pile
-  no-pile-top e = sym (top-none (listed n (λ v. (v + 1) * 16 + s)) (length-listed (λ v. (v + 1) * 16 + s) n ∙ e))
-
-  pub a-pile-top : s < 4 → (n ≡ 0 → ⊥) → {t : Suit} → t ≡ suitAt s → Is (record { suit = t; value = n }) ≡ topOf (pile s n)
-  unfolding pile cardOf
-  a-pile-top h d e =
-      let g : ℕ → ℕ = λ v. (v + 1) * 16 + s in
-      sym
-      (top-some (listed n g) (n - 1) (let l = length-listed g n in omega arith)
-      ∙ ap (λ (x : ℕ). Is (cardOf x)) (getD-listed g n (n - 1) 0 (omega arith))
-      ∙ ap₂ (λ (k v : ℕ). Is (record { suit = suitAt k; value = v }))
-      (let q : ((n - 1 + 1) * 16 + s) % 16 ≡ s = omega arith in q) (let q : ((n - 1 + 1) * 16 + s) / 16 ≡ n = omega arith in q)
-      ∙ ap (λ (k : Suit). Is (record { suit = k; value = n })) (sym e))
-
-pub cell-top : (x : ℕ) → cellOf x ≡ topOf (held (x ∷ []))
-unfolding cellOf held topOf
-cell-top x = by-test (eqb x 255)
-  where
-    by-test : (t : Bool) → cond t Empty (Is (cardOf x)) ≡ topOf (cond t [] (x ∷ []))
-    by-test true = refl
-    by-test false = refl
-
-module _ {b : Board} (sound : Sound b) {r : Top} {p : Place} (i : ℕ) where
-  pub top-column : p ≡ column i → i < 8 → r ≡ topOf (columnAt (b .counts) (b .tableau) i) → r ≡ topOf (there (shown b) p)
-  top-column q h e = e ∙ ap topOf (shown-column b i h) ∙ ap (λ (k : Place). topOf (there (shown b) k)) (sym q)
-
-  pub top-cell : p ≡ cell i → r ≡ cellOf (getD (b .cells) i 0) → r ≡ topOf (there (shown b) p)
-  top-cell q e =
-      e ∙ cell-top (getD (b .cells) i 0) ∙ ap (λ (l : List ℕ). topOf (held (getD l i 0 ∷ []))) (shown-cells b)
-      ∙ ap (λ (k : Place). topOf (there (shown b) k)) (sym q)
-
-  pub top-home : p ≡ home i → r ≡ topOf (pile i (getD (b .foundation) i 0)) → r ≡ topOf (there (shown b) p)
-  top-home q e =
-      e ∙ ap (λ (l : List ℕ). topOf (pile i (getD l i 0))) (shown-foundation b) ∙ ap (λ (k : Place). topOf (there (shown b) k)) (sym q)
 
 -- ---- what a place takes
 

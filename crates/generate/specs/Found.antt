@@ -9,7 +9,8 @@ use Rattle.card.specs.Suit.{suitAt}
 use Rattle.card.specs.Card.{cardOf}
 use Rattle.card.specs.declared.Card.{Card}
 use Rattle.board.specs.Table.{Table}
-use Rattle.moves.specs.Move.{Place, column, cell, home}
+use Rattle.moves.specs.declared.Place.{Place}
+use Rattle.moves.specs.declared.Place.the-variants.{Column as column, Cell as cell, Home as home}
 use Rattle.moves.specs.Play.{there, lastOf, allowed}
 use Rattle.moves.specs.declared.Move.{Move}
 use Rattle.moves.specs.declared.Move.the-variants.{TableauToTableau, TableauToFoundation, TableauToFreeCell, FreeCellToTableau, FreeCellToFoundation, FoundationToTableau}

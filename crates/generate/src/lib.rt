@@ -1,17 +1,15 @@
 // The six generators of moves, in one walk: by source, destination, length (after freecell/board.rs, `find_..`, changed: NOTICE).
 ghost use mathlib.Core.Path.{_≡_};
 ghost use mathlib.Core.Bool.{true};
-ghost use mathlib.Core.List.{_∷_, []};
 ghost use Prim.Native.Nat.{suc, min, _+_, _*_, _<_, _≤_};
-ghost use lib.ListN.{length, getD};
+ghost use lib.ListN.{length};
 ghost use Rattle.card.specs.Card.{isValue, codeOf};
 ghost use Rattle.board.specs.Record.{shown, columnAt, laid};
-ghost use Rattle.board.specs.Table.{pile};
-ghost use Rattle.board.specs.Inner.{GoodPiles, Sound};
+ghost use Rattle.board.specs.Inner.{Sound};
 ghost use Rattle.questions.specs.Questions.{topOf};
 ghost use Rattle.questions.specs.declared.Top.the-variants.{Is};
 ghost use Rattle.runs.specs.Run.{runLength};
-ghost use Rattle.moves.specs.Move.{to, sayable};
+ghost use Rattle.moves.specs.Move.{to};
 ghost use Rattle.moves.specs.Play.{there, takes};
 ghost use Rattle.generate.specs.Found.{sourceCount, targetCount, source, moveFrom, offered, ifAllowed, foundBetween, foundFrom, found};
 ghost use Rattle.moves.specs.Written.{Adds};
@@ -111,21 +109,6 @@ fn move_from(way: Way, i: usize, j: usize, card: Card) -> Move
     }
 }
 
-// The top of a foundation.
-fn home_at(foundation: &[u8; 4], i: usize) -> Top
-    requires { ⌜ GoodPiles (now foundation) ⌝ }
-    requires { ⌜ i < 4 ⌝ }
-    ensures { λ r. ⌜ r ≡ topOf (pile i (getD (now (foundation .entry)) i 0)) ⌝ }
-{
-    let value = foundation[i];
-    if value == 0 {
-        return Top::Empty;
-    }
-    let s = i as u8;
-    let suit = card::suit_at(s);
-    Top::Is(Card { suit, value })
-}
-
 // The last card at the place that a kind of move takes from.
 fn card_at<'a>(
     way: Way,
@@ -145,7 +128,7 @@ fn card_at<'a>(
         Way::ColumnToCell => questions::top_at(counts, tableau, i),
         Way::CellToColumn => questions::cell_at(cells, i),
         Way::CellToHome => questions::cell_at(cells, i),
-        Way::HomeToColumn => home_at(foundation, i),
+        Way::HomeToColumn => play::rule::home_at(foundation, i),
     }
 }
 

@@ -20,7 +20,8 @@ use Rattle.board.proofs.Tables.{cell-empty, cell-card}
 use Rattle.board.specs.Fair.{Seats}
 use Rattle.rules.specs.Fit.{homeTakes}
 use Rattle.runs.specs.Run.{isRun}
-use Rattle.moves.specs.Move.{cell, home, from, to, count, card, isPlace, sayable}
+use Rattle.moves.specs.Move.{from, to, count, card, isPlace, sayable}
+use Rattle.moves.specs.declared.Place.the-variants.{Cell as cell, Home as home}
 use Rattle.moves.specs.Play.{there, cellCode, lastOf, othersOf, hand, without, afterMove, elsewhere, withinLimit, fitsColumn, cellFree, nextHome, takes, allowed}
 use Rattle.moves.specs.declared.Move.{Move}
 use Rattle.moves.specs.declared.Move.the-variants.{TableauToTableau, TableauToFoundation, TableauToFreeCell, FreeCellToTableau, FreeCellToFoundation, FoundationToTableau}

@@ -1,20 +1,18 @@
 -- Deciding whether a move is allowed, test by test, in the order of the causes.
-use mathlib.Core.Path.{_≡_, refl, sym, ap, _∙_}
-use mathlib.Core.Bool.{Bool, true, false, _&&_}
+use mathlib.Core.Path.{_≡_, refl, ap, _∙_}
+use mathlib.Core.Bool.{true, false, _&&_}
 use mathlib.Core.List.{List, [], _∷_}
 use Prim.Native.Nat.{ℕ, _<_, _≤_}
 use native.Mathlib.Omega.{arith}
-use native.Mathlib.Decide.{decLt}
-use borrow.Author.Tests.{le-leb, lt-leb, eq-eqb, ne-eqb, leb-true, eqb-true}
+use borrow.Author.Tests.{le-leb, lt-leb, eq-eqb, ne-eqb}
 use lib.Dec.{eqb, leb}
 use lib.ListN.{length, getD}
-use Rattle.base.specs.Answer.{Answer, given, unless}
 use Rattle.card.specs.Card.{codeOf}
-use Rattle.base.proofs.Words.{true-or-not, both, first, second, first-fails, second-fails}
+use Rattle.base.proofs.Words.{first-fails, second-fails}
 use Rattle.board.specs.Table.{Table}
 use Rattle.runs.specs.Run.{isRun}
 use Rattle.moves.specs.Move.{from, to, count, card}
-use Rattle.moves.specs.Play.{there, lastOf, hand, elsewhere, withinLimit, fitsColumn, cellFree, nextHome, takes, causeNumber, played, allowed, afterMove, endsIn}
+use Rattle.moves.specs.Play.{there, lastOf, hand, elsewhere, withinLimit, takes, allowed}
 use Rattle.moves.specs.declared.Move.{Move}
 use Rattle.moves.proofs.Allowing.{last-length}
 
@@ -64,44 +62,17 @@ one-run [] e = absurd (let z : ⊥ = omega arith in z)
 one-run (x ∷ []) e = refl
 one-run (x ∷ y ∷ l) e = absurd (let z : ⊥ = omega arith in z)
 
-module _ (t : Table) (m : Move) (one : count m ≡ 1) (away : elsewhere (from m) (to m) ≡ true) (limit : withinLimit t (from m) (to m) (count m) ≡ true) where
-  pub one-denied : endsIn (there t (from m)) (codeOf (card m)) ≡ false → allowed t m ≡ false
-  unfolding endsIn hand
-  one-denied e = by-side (decLt 0 (length (there t (from m))))
-    where
-      by-side : Dec (0 < length (there t (from m))) → allowed t m ≡ false
-      by-side (no h) = deny-some t m (omega arith)
-      by-side (yes h) =
-          deny-named t m
-          (λ q. true-or-not false
-          (sym e ∙ both (le-leb 1 (length (there t (from m))) h)
-          (eq-eqb (getD (lastOf 1 (there t (from m))) 0 0) (codeOf (card m)) (ap (λ (n : ℕ). getD (lastOf n (there t (from m))) 0 0) (sym one) ∙ q)))
-          refl)
+module _ (t : Table) (m : Move) (one : count m ≡ 1) where
+  -- the card in the hand is the last one there
+  pub one-named : getD (hand t m) 0 0 ≡ getD (lastOf 1 (there t (from m))) 0 0
+  unfolding hand
+  one-named = ap (λ (n : ℕ). getD (lastOf n (there t (from m))) 0 0) one
 
-  pub one-decided : endsIn (there t (from m)) (codeOf (card m)) ≡ true
-      → allowed t m ≡ takes t (to m) (codeOf (card m))
-  unfolding endsIn hand
-  one-decided e =
-      let h = leb-true 1 (length (there t (from m))) (first (leb 1 (length (there t (from m)))) _ e) in
-      let q = eqb-true (getD (lastOf 1 (there t (from m))) 0 0) (codeOf (card m)) (second (leb 1 (length (there t (from m)))) _ e) in
-      others-decide t m away h (omega arith) (ap (λ (n : ℕ). getD (lastOf n (there t (from m))) 0 0) one ∙ q)
-      ∙ rw (limit, one-run (lastOf (count m) (there t (from m))) (last-length (count m) (there t (from m)) (omega arith) ∙ one))
+  pub one-is-run : 1 ≤ length (there t (from m)) → isRun (hand t m) ≡ true
+  unfolding hand
+  one-is-run some = one-run (lastOf (count m) (there t (from m))) (last-length (count m) (there t (from m)) (omega arith) ∙ one)
 
--- ---- the causes and `allowed` say the same
-
-module _ (t : Table) (m : Move) where
-  -- one test more
-  step : (a b : Bool) {x : Answer Table} → x ≡ unless b 30 (given (afterMove t m)) → unless a 30 x ≡ unless (a && b) 30 (given (afterMove t m))
-  step true b e = e
-  step false b e = refl
-
-  pub played-is : played t m ≡ unless (allowed t m) 30 (given (afterMove t m))
-  unfolding played allowed takes causeNumber
-  played-is =
-      step (elsewhere (from m) (to m)) _
-      (step (leb 1 (length (there t (from m)))) _
-      (step (leb (count m) (length (there t (from m)))) _
-      (step (eqb (getD (hand t m) 0 0) (codeOf (card m))) _
-      (step (withinLimit t (from m) (to m) (count m)) _
-      (step (isRun (hand t m)) _
-      (step (fitsColumn t (to m) (codeOf (card m))) _ (step (cellFree t (to m)) (nextHome t (to m) (codeOf (card m))) refl)))))))
+  pub one-decided : elsewhere (from m) (to m) ≡ true → withinLimit t (from m) (to m) (count m) ≡ true → 1 ≤ length (there t (from m))
+      → getD (lastOf 1 (there t (from m))) 0 0 ≡ codeOf (card m) → allowed t m ≡ takes t (to m) (codeOf (card m))
+  one-decided away limit some named =
+      others-decide t m away some (omega arith) (one-named ∙ named) ∙ rw (limit, one-is-run some)

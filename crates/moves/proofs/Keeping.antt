@@ -8,13 +8,15 @@ use native.Mathlib.Omega.{arith}
 use borrow.Author.Tests.{ltb-true}
 use lib.ListN.{length, getD, set, length-set, take-append-drop}
 use lib.Seq.{getD-set-same, getD-set-other}
-use Rattle.base.specs.Words.{occurs, concat, sum}
+use Rattle.base.specs.Words.{occurs, concat}
 use Rattle.base.proofs.Words.{occurs-append, occurs-concat}
 use Rattle.base.proofs.Sums.{sum-changed}
 use Rattle.board.specs.Table.{Table, pile, piles, held, cardsOn}
 use Rattle.board.specs.Fair.{Seats}
 use Rattle.board.proofs.Tables.{held-append}
-use Rattle.moves.specs.Move.{Place, column, cell, home, from, to, count, isPlace}
+use Rattle.moves.specs.Move.{from, to, count, isPlace}
+use Rattle.moves.specs.declared.Place.{Place}
+use Rattle.moves.specs.declared.Place.the-variants.{Column as column, Cell as cell, Home as home}
 use Rattle.moves.specs.Play.{there, cellCode, put, lastOf, othersOf, hand, without, afterMove}
 use Rattle.moves.specs.declared.Move.{Move}
 

@@ -7,4 +7,6 @@ pub mod Allowing
 pub mod Fairness
 pub mod Totals
 pub mod Deciding
+pub mod Ruling
+pub mod Examples
 pub mod Unique

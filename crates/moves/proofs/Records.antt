@@ -10,7 +10,9 @@ use lib.ListN.{length, getD}
 use Rattle.base.specs.Answer.{given, refused}
 use Rattle.card.specs.Card.{isCard, isValue}
 use Rattle.base.proofs.Words.{first, second, first-fails, second-fails}
-use Rattle.moves.specs.Move.{Place, column, cell, home, from, to, count, card, isPlace, sayable}
+use Rattle.moves.specs.Move.{from, to, count, card, isPlace, sayable}
+use Rattle.moves.specs.declared.Place.{Place}
+use Rattle.moves.specs.declared.Place.the-variants.{Column as column, Cell as cell, Home as home}
 use Rattle.moves.specs.Record.{sourceRoom, targetAllows, countAllows, possible, moveSaid, moveOf, moveAsked}
 use Rattle.moves.specs.declared.Move.{Move}
 

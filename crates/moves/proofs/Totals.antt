@@ -12,7 +12,9 @@ use Rattle.base.proofs.Sums.{sum-changed}
 use Rattle.board.specs.Table.{Table, pile}
 use Rattle.board.specs.Fair.{Seats}
 use Rattle.questions.specs.Questions.{homeCount}
-use Rattle.moves.specs.Move.{Place, column, cell, home, from, to, count, isPlace, sayable}
+use Rattle.moves.specs.Move.{from, to, count, isPlace, sayable}
+use Rattle.moves.specs.declared.Place.{Place}
+use Rattle.moves.specs.declared.Place.the-variants.{Column as column, Cell as cell, Home as home}
 use Rattle.moves.specs.Play.{there, put, lastOf, othersOf, hand, without, afterMove, allowed, homeward}
 use Rattle.moves.specs.declared.Move.{Move}
 use Rattle.moves.specs.declared.Move.the-variants.{TableauToTableau, TableauToFoundation, TableauToFreeCell, FreeCellToTableau, FreeCellToFoundation, FoundationToTableau}

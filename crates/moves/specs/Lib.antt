@@ -2,4 +2,6 @@
 pub mod Move
 pub mod Record
 pub mod Play
+pub mod Causes
 pub mod Written
+pub mod Inner

@@ -6,14 +6,11 @@ use Rattle.card.specs.Suit.{suitNumber}
 use Rattle.card.specs.Card.{isValue}
 use Rattle.card.specs.declared.Card.{Card}
 use Rattle.moves.specs.declared.Move.{Move}
+use Rattle.moves.specs.declared.Place.{Place}
+use Rattle.moves.specs.declared.Place.the-variants.{Column as column, Cell as cell, Home as home}
 use Rattle.moves.specs.declared.Move.the-variants.{TableauToTableau, TableauToFoundation, TableauToFreeCell, FreeCellToTableau, FreeCellToFoundation, FoundationToTableau}
 
--- a column 0 to 7, a cell 0 to 3, the foundation of a suit 0 to 3
-pub data Place : Type 0 where
-  column : ℕ → Place
-  cell : ℕ → Place
-  home : ℕ → Place
-
+-- where it takes from and where it goes to: a column 0 to 7, a cell 0 to 3, the foundation of a suit 0 to 3
 abbrev pub from : Move → Place
 from (TableauToTableau s d n c) = column s
 from (TableauToFoundation s c) = column s

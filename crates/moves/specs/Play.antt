@@ -4,13 +4,14 @@ use mathlib.Core.List.{List, [], _∷_, _++_}
 use Prim.Native.Nat.{ℕ, _-_}
 use lib.Dec.{eqb, leb}
 use lib.ListN.{length, getD, take, drop, set}
-use Rattle.base.specs.Answer.{Answer, given, unless}
 use Rattle.card.specs.Card.{codeOf}
 use Rattle.board.specs.Table.{Table, pile, held}
 use Rattle.rules.specs.Fit.{fitsOn, homeTakes}
 use Rattle.runs.specs.Run.{isRun}
 use Rattle.rules.specs.Limit.{mostMoved}
-use Rattle.moves.specs.Move.{Place, column, cell, home, from, to, count, card}
+use Rattle.moves.specs.Move.{from, to, count, card}
+use Rattle.moves.specs.declared.Place.{Place}
+use Rattle.moves.specs.declared.Place.the-variants.{Column as column, Cell as cell, Home as home}
 use Rattle.moves.specs.declared.Move.{Move}
 
 -- the cards at a place, the deepest first
@@ -37,10 +38,6 @@ lastOf n l = drop (length l - n) l
 unfoldable pub othersOf : ℕ → List ℕ → List ℕ
 othersOf n l = take (length l - n) l
 
--- the last card there is x
-unfoldable pub endsIn : List ℕ → ℕ → Bool
-endsIn l x = leb 1 (length l) && eqb (getD (lastOf 1 l) 0 0) x
-
 -- the cards that a move takes up, and the table without them
 unfoldable pub hand : Table → Move → List ℕ
 hand t m = lastOf (count m) (there t (from m))
@@ -54,15 +51,7 @@ afterMove t m = put (without t m) (to m) (there (without t m) (to m) ++ hand t m
 
 -- ---- when a move is allowed
 
--- why a move is not allowed, in the order in which it is said
-pub data Cause : Type 0 where
-  ownColumn sourceEmpty tooMany otherCard overLimit noRun noFit cellFull notNext : Cause
-
--- SCOPE.md's number of a cause
-unfoldable pub causeNumber : Cause → ℕ
-causeNumber c = 30
-
--- a column to itself
+-- not from a column to itself
 abbrev pub elsewhere : Place → Place → Bool
 elsewhere (column i) (column j) = not (eqb i j)
 elsewhere (column i) (cell j) = true
@@ -98,20 +87,7 @@ nextHome t (home s) x = homeTakes (t .foundation) x
 unfoldable pub takes : Table → Place → ℕ → Bool
 takes t p x = fitsColumn t p x && (cellFree t p && nextHome t p x)
 
--- the first cause that holds, or the table after the move
-unfoldable pub played : Table → Move → Answer Table
-played t m =
-    unless (elsewhere (from m) (to m)) (causeNumber ownColumn)
-    (unless (leb 1 (length (there t (from m)))) (causeNumber sourceEmpty)
-    (unless (leb (count m) (length (there t (from m)))) (causeNumber tooMany)
-    (unless (eqb (getD (hand t m) 0 0) (codeOf (card m))) (causeNumber otherCard)
-    (unless (withinLimit t (from m) (to m) (count m)) (causeNumber overLimit)
-    (unless (isRun (hand t m)) (causeNumber noRun)
-    (unless (fitsColumn t (to m) (codeOf (card m))) (causeNumber noFit)
-    (unless (cellFree t (to m)) (causeNumber cellFull)
-    (unless (nextHome t (to m) (codeOf (card m))) (causeNumber notNext) (given (afterMove t m))))))))))
-
--- a move is allowed: no cause against it holds
+-- a move is allowed: it passes all of these tests (Causes.antt says which number is given if it does not)
 unfoldable pub allowed : Table → Move → Bool
 allowed t m =
     elsewhere (from m) (to m)

@@ -5,7 +5,9 @@ ghost use mathlib.Core.List.{_∷_, []};
 ghost use Prim.Native.Nat.{_+_, _*_, _<_, _≤_};
 ghost use lib.ListN.{length};
 ghost use Rattle.card.specs.Card.{isCard};
-ghost use Rattle.moves.specs.Move.{sayable};
+ghost use Rattle.card.specs.Suit.{suitNumber};
+ghost use Rattle.moves.specs.Move.{from, to, card, sayable};
+ghost use Rattle.moves.specs.declared.Place.the-variants.{Home as home};
 ghost use Rattle.moves.specs.Record.{sourceRoom, targetAllows, countAllows, moveSaid, moveAsked, moveTold, sayableTold, recordOf};
 ghost use Rattle.moves.specs.Written.{Adds};
 use card::Card;
@@ -49,9 +51,73 @@ pub enum Move {
     },
 }
 
+// A column, a cell, the foundation of a suit.
+pub enum Place {
+    Column(usize),
+    Cell(usize),
+    Home(usize),
+}
+
 pub enum Decoded {
     Is(Move),
     Impossible,
+}
+
+// Where a move takes from.
+pub fn source_of(m: Move) -> Place
+    ensures { λ r. ⌜ r ≡ from m ⌝ }
+{
+    match m {
+        Move::TableauToTableau { source, .. } => Place::Column(source),
+        Move::TableauToFoundation { source, .. } => Place::Column(source),
+        Move::TableauToFreeCell { source, .. } => Place::Column(source),
+        Move::FreeCellToTableau { cell_index, .. } => Place::Cell(cell_index),
+        Move::FreeCellToFoundation { cell_index, .. } => Place::Cell(cell_index),
+        Move::FoundationToTableau { suit, .. } => home_of(suit),
+    }
+}
+
+// The foundation of a suit.
+fn home_of(suit: Suit) -> Place
+    ensures { λ r. ⌜ r ≡ home (suitNumber suit) ⌝ }
+{
+    Place::Home(base::wide(suit.number()))
+}
+
+// The foundation of a card.
+fn own_home(card: Card) -> Place
+    ensures { λ r. ⌜ r ≡ home (suitNumber (card .suit)) ⌝ }
+{
+    let suit = card.suit;
+    home_of(suit)
+}
+
+// Where it goes to.
+pub fn target_of(m: Move) -> Place
+    ensures { λ r. ⌜ r ≡ to m ⌝ }
+{
+    match m {
+        Move::TableauToTableau { destination, .. } => Place::Column(destination),
+        Move::TableauToFoundation { card, .. } => own_home(card),
+        Move::TableauToFreeCell { cell_index, .. } => Place::Cell(cell_index),
+        Move::FreeCellToTableau { destination, .. } => Place::Column(destination),
+        Move::FreeCellToFoundation { card, .. } => own_home(card),
+        Move::FoundationToTableau { destination, .. } => Place::Column(destination),
+    }
+}
+
+// The deepest card that it moves.
+pub fn deepest_of(m: Move) -> Card
+    ensures { λ r. ⌜ r ≡ card m ⌝ }
+{
+    match m {
+        Move::TableauToTableau { card, .. } => card,
+        Move::TableauToFoundation { card, .. } => card,
+        Move::TableauToFreeCell { card, .. } => card,
+        Move::FreeCellToTableau { card, .. } => card,
+        Move::FreeCellToFoundation { card, .. } => card,
+        Move::FoundationToTableau { card, .. } => card,
+    }
 }
 
 // How many places there are to move from.

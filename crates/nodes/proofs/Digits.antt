@@ -11,7 +11,9 @@ use Rattle.card.specs.Card.{codeOf, isValue}
 use Rattle.card.specs.declared.Card.{Card}
 use Rattle.card.proofs.Codes.{suit-below, value-is}
 use Rattle.board.specs.Table.{Table}
-use Rattle.moves.specs.Move.{Place, column, cell, home, isPlace, from, to, count, card, sayable}
+use Rattle.moves.specs.Move.{isPlace, from, to, count, card, sayable}
+use Rattle.moves.specs.declared.Place.{Place}
+use Rattle.moves.specs.declared.Place.the-variants.{Column as column, Cell as cell, Home as home}
 use Rattle.moves.specs.Record.{possible, moveOf, recordOf}
 use Rattle.moves.specs.Play.{allowed}
 use Rattle.moves.specs.declared.Move.{Move}

@@ -16,7 +16,7 @@ use Rattle.board.specs.Inner.{GoodColumns}
 use Rattle.board.specs.declared.Board.{Board}
 use Rattle.board.proofs.Soundness.{column-length, column-code}
 use Rattle.questions.proofs.Asking.{shown-column}
-use Rattle.moves.specs.Move.{column, cell, home}
+use Rattle.moves.specs.declared.Place.the-variants.{Column as column, Cell as cell, Home as home}
 use Rattle.moves.specs.Play.{put, there, othersOf, lastOf, cellCode}
 use Rattle.play.specs.Change.{Becomes, Cleared, Apart, Copied}
 

@@ -25,7 +25,9 @@ use Rattle.board.proofs.Tables.{cell-empty, cell-card}
 use Rattle.board.specs.Fair.{Seats, Fair}
 use Rattle.board.proofs.Fair.{shows-fair, fair-laid}
 use Rattle.questions.proofs.Asking.{shown-column, shown-foundation}
-use Rattle.moves.specs.Move.{Place, column, cell, home, from, to, count, card, isPlace, sayable}
+use Rattle.moves.specs.Move.{from, to, count, card, isPlace, sayable}
+use Rattle.moves.specs.declared.Place.{Place}
+use Rattle.moves.specs.declared.Place.the-variants.{Column as column, Cell as cell, Home as home}
 use Rattle.moves.specs.Play.{there, cellCode, put, lastOf, othersOf, hand, without, afterMove, cellFree}
 use Rattle.moves.specs.declared.Move.{Move}
 use Rattle.moves.specs.declared.Move.the-variants.{TableauToTableau, TableauToFoundation, TableauToFreeCell, FreeCellToTableau, FreeCellToFoundation, FoundationToTableau}

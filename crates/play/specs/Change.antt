@@ -7,7 +7,8 @@ use Rattle.board.specs.Table.{Table}
 use Rattle.board.specs.Record.{shown, laid}
 use Rattle.board.specs.Inner.{GoodColumns, Sound}
 use Rattle.board.specs.declared.Board.{Board}
-use Rattle.moves.specs.Move.{column, sayable}
+use Rattle.moves.specs.Move.{sayable}
+use Rattle.moves.specs.declared.Place.the-variants.{Column as column}
 use Rattle.moves.specs.Play.{put, there, othersOf, lastOf, allowed}
 use Rattle.moves.specs.declared.Move.{Move}
 use mathlib.Core.Bool.{true}

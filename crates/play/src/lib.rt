@@ -10,7 +10,7 @@ ghost use Rattle.board.specs.Inner.{GoodColumns, GoodPiles};
 ghost use Rattle.moves.specs.Play.{afterMove};
 ghost use Rattle.play.specs.Change.{Becomes, Cleared, Apart, Copied, Lays, Drops, Doubles, Ready};
 
-pub mod allow;
+pub mod rule;
 
 use board::Board;
 use board::CODES;

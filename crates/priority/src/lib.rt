@@ -144,7 +144,7 @@ pub fn local_priority(b: Board, m: Move) -> i64
     )
 }
 
-// 12 to 15, 30 as one move is refused, or the local priority of a move.
+// 12 to 15, 30 and 33 to 40 as one move is refused, or the local priority of a move.
 pub fn priority_of(b: Board, bytes: &[u8]) -> ScoreAnswer
     ensures { λ r. ⌜ scoreTold r ≡ priorityAsked b (now (bytes .entry)) ⌝ }
 {
@@ -154,8 +154,8 @@ pub fn priority_of(b: Board, bytes: &[u8]) -> ScoreAnswer
     let Decoded::Is(m) = moves::decode(bytes) else {
         return ScoreAnswer::Refused(Refusal::OutOfRange);
     };
-    if play::allow::allowed_at(b, m) {
-        return ScoreAnswer::Score(local_priority(b, m));
+    if let Examined::Refused(why) = play::rule::ruled_at(b, m) {
+        return ScoreAnswer::Refused(why);
     }
-    ScoreAnswer::Refused(Refusal::OutOfRange)
+    ScoreAnswer::Score(local_priority(b, m))
 }

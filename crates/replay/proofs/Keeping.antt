@@ -10,6 +10,7 @@ use lib.ListN.{length, getD, take, drop, length-drop, length-append}
 use lib.Seq.{getD-take, getD-drop}
 use Rattle.base.specs.Words.{occurs}
 use Rattle.base.specs.Answer.{Answer, given, refused}
+use Rattle.board.specs.Verdict.{Verdict}
 use Rattle.base.proofs.Words.{first, second}
 use Rattle.board.specs.Table.{cardsOn}
 use Rattle.board.specs.Record.{shown, boardOf}
@@ -19,7 +20,9 @@ use Rattle.board.specs.declared.Examined.the-variants.{WellFormed}
 use Rattle.board.proofs.Soundness.{sound-fine}
 use Rattle.moves.specs.Move.{sayable}
 use Rattle.moves.specs.Record.{moveAsked}
-use Rattle.moves.specs.Play.{afterMove, allowed, played}
+use Rattle.moves.specs.Play.{afterMove}
+use Rattle.moves.specs.Causes.{ruling, played}
+use Rattle.moves.proofs.Ruling.{fine-allowed}
 use Rattle.moves.specs.declared.Move.{Move}
 use Rattle.moves.proofs.Saying.{said-asked}
 use Rattle.replay.specs.Step.{recorded, playedOn, stepped}
@@ -42,17 +45,18 @@ both-kept k l = record { sound = l .sound; cards = λ x. l .cards x ∙ k .cards
 -- ---- one move
 
 module _ {b c : Board} (s : Sound b) where
-  made-keeps : (m : Move) → sayable m ≡ true → (ok : Bool) → allowed (shown b) m ≡ ok → recorded (played (shown b) m) ≡ given c → Kept b c
-  made-keeps m said true a e =
+  made-keeps : (m : Move) → sayable m ≡ true → (v : Verdict) → ruling (shown b) m ≡ v → recorded (played (shown b) m) ≡ given c → Kept b c
+  made-keeps m said (given u) r e =
+      let a = fine-allowed (shown b) m r in
       let q = sym (made-yes b m a) ∙ e in
       let same : boardOf (afterMove (shown b) m) ≡ c = cc in
       subst (Kept b) same (record { sound = sound-after b s m said a; cards = cards-after b s m said a })
-  made-keeps m said false a e =
-      let q = sym (made-no b m a) ∙ e in
+  made-keeps m said (refused n) r e =
+      let q = sym (made-no b m r) ∙ e in
       let z : _≡_ {A = ℕ} 0 1 = cc in absurd (let w : ⊥ = omega arith in w)
 
   asked-keeps : (r : List ℕ) → getD r 3 0 ≤ 255 → (a : Answer Move) → a ≡ moveAsked r → playedOn b a ≡ given c → Kept b c
-  asked-keeps r byte (given m) q e = made-keeps m (said-asked r byte q) (allowed (shown b) m) refl e
+  asked-keeps r byte (given m) q e = made-keeps m (said-asked r byte q) (ruling (shown b) m) refl e
   asked-keeps r byte (refused n) q e = let z : _≡_ {A = ℕ} 0 1 = cc in absurd (let w : ⊥ = omega arith in w)
 
   pub step-keeps : (r : List ℕ) → getD r 3 0 ≤ 255 → stepped b r ≡ given c → Kept b c
@@ -71,7 +75,7 @@ module _ {b : Board} (s : Sound b) (r : List ℕ) (byte : getD r 3 0 ≤ 255) (r
   turn-keeps (given c) e = let k = step-keeps s r byte e in both-kept k (on c (k .sound))
   turn-keeps (refused n) e = none-kept s
 
-line-keeps : (n : ℕ) (l : List ℕ) → length l / 5 ≡ n → Bytes l → (b : Board) → Sound b → Kept b (lineFrom b (recordsIn l) .board)
+pub line-keeps : (n : ℕ) (l : List ℕ) → length l / 5 ≡ n → Bytes l → (b : Board) → Sound b → Kept b (lineFrom b (recordsIn l) .board)
 unfolding lineFrom
 line-keeps zero l e f b s =
     subst (λ (rs : List (List ℕ)). Kept b (lineFrom b rs .board)) (sym (records-none l (omega arith))) (none-kept s)

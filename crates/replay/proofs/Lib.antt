@@ -2,6 +2,7 @@
 pub mod Stepping
 pub mod Lining
 pub mod Replaying
+pub mod Causes
 pub mod Keeping
 pub mod Legal
 pub mod Unique

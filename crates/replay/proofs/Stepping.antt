@@ -1,11 +1,11 @@
 -- One move on a board: its answer, and the board after it is well formed again.
 use mathlib.Core.Path.{_≡_, sym, ap, _∙_}
-use mathlib.Core.Bool.{Bool, true, false}
+use mathlib.Core.Bool.{true}
 use mathlib.Core.List.{List}
 use Prim.Native.Nat.{ℕ}
 use native.Mathlib.Omega.{arith}
 use Rattle.base.specs.Words.{occurs}
-use Rattle.base.specs.Answer.{Answer, given, refused, unless}
+use Rattle.base.specs.Answer.{Answer, given, refused}
 use Rattle.board.specs.Table.{Table, cardsOn}
 use Rattle.board.specs.Verdict.{fine}
 use Rattle.board.specs.Record.{shown, boardOf}
@@ -19,13 +19,14 @@ use Rattle.board.specs.Fair.{Fair}
 use Rattle.board.proofs.Fair.{shows-fair, fair-laid, fair-sound}
 use Rattle.moves.specs.Move.{sayable}
 use Rattle.moves.specs.Record.{moveAsked, moveTold}
-use Rattle.moves.specs.Play.{afterMove, played, allowed}
+use Rattle.moves.specs.Play.{afterMove, allowed}
+use Rattle.moves.specs.Causes.{ruling, played}
 use Rattle.moves.specs.declared.Move.{Move}
 use Rattle.moves.specs.declared.Decoded.{Decoded}
 use Rattle.moves.specs.declared.Decoded.the-variants.{Is, Impossible}
 use Rattle.moves.proofs.Allowing.{allowed-keeps}
 use Rattle.moves.proofs.Fairness.{fair-after}
-use Rattle.moves.proofs.Deciding.{played-is}
+use Rattle.moves.proofs.Ruling.{played-yes, played-no}
 use Rattle.play.specs.Change.{Becomes}
 use Rattle.replay.specs.Step.{recorded, playedOn, stepped}
 use Rattle.replay.specs.Handed.{verdictOf, boardOr, Moves}
@@ -60,10 +61,10 @@ module _ {b : Board} where
 
 module _ (b : Board) (m : Move) where
   pub made-yes : allowed (shown b) m ≡ true → recorded (played (shown b) m) ≡ given (boardOf (afterMove (shown b) m))
-  made-yes e = ap recorded (played-is (shown b) m ∙ ap (λ (ok : Bool). unless ok 30 (given (afterMove (shown b) m))) e)
+  made-yes e = ap recorded (played-yes (shown b) m e)
 
-  pub made-no : allowed (shown b) m ≡ false → recorded (played (shown b) m) ≡ refused 30
-  made-no e = ap recorded (played-is (shown b) m ∙ ap (λ (ok : Bool). unless ok 30 (given (afterMove (shown b) m))) e)
+  pub made-no : {n : ℕ} → ruling (shown b) m ≡ refused n → recorded (played (shown b) m) ≡ refused n
+  made-no e = ap recorded (played-no (shown b) m e)
 
   module _ (bytes : List ℕ) {r : Decoded} (e : moveTold r ≡ moveAsked bytes) where
     pub step-said : r ≡ Is m → recorded (played (shown b) m) ≡ stepped b bytes

@@ -49,7 +49,7 @@ abbrev pub ifFine : Verdict → Board → Ending → Ending
 ifFine (given u) b e = e
 ifFine (refused n) b e = stopped b n
 
--- 12 to 15 if the board is not fine, then 31 if the list is none, then 30 at the first bad move
+-- 12 to 15 if the board is not fine, then 31 if the list is none, then the number of the first bad move
 unfoldable pub replayed : Board → List ℕ → Ending
 replayed b bytes = ifFine (after (examined b) (unless (isLine bytes) 31 fine)) b (lineFrom b (recordsIn bytes))
 

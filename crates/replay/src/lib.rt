@@ -6,7 +6,7 @@ ghost use lib.ListN.{length};
 ghost use Rattle.board.specs.Record.{shown};
 ghost use Rattle.board.specs.Inner.{Sound};
 ghost use Rattle.moves.specs.Move.{sayable};
-ghost use Rattle.moves.specs.Play.{played};
+ghost use Rattle.moves.specs.Causes.{played};
 ghost use Rattle.replay.specs.Step.{recorded, stepped, moveMade};
 ghost use Rattle.replay.specs.Line.{lineFrom, recordsIn, replayed, isLine};
 ghost use Rattle.replay.specs.Handed.{Moves, Ends};
@@ -31,26 +31,26 @@ pub struct Replayed {
     pub board: Board,
 }
 
-// 30, or the board after a move.
+// 30, 33 to 40, or the board after a move.
 fn make(b: Board, m: Move) -> Moved
     requires { ⌜ Sound b ⌝ }
     requires { ⌜ sayable m ≡ true ⌝ }
     ensures { λ r. ⌜ Moves b (recorded (played (shown b) m)) r ⌝ }
     ensures { λ r. ⌜ Sound (r .board) ⌝ }
 {
-    if play::allow::allowed_at(b, m) {
+    if let Examined::Refused(why) = play::rule::ruled_at(b, m) {
         return Moved {
-            said: Examined::WellFormed,
-            board: play::apply_at(b, m),
+            said: Examined::Refused(why),
+            board: b,
         };
     }
     Moved {
-        said: Examined::Refused(Refusal::OutOfRange),
-        board: b,
+        said: Examined::WellFormed,
+        board: play::apply_at(b, m),
     }
 }
 
-// 30, or the board after the move of a record, on a well formed board.
+// 30, 33 to 40, or the board after the move of a record, on a well formed board.
 pub fn apply_record_at(b: Board, bytes: &[u8]) -> Moved
     requires { ⌜ Sound b ⌝ }
     ensures { λ r. ⌜ Moves b (stepped b (now (bytes .entry))) r ⌝ }
@@ -65,7 +65,7 @@ pub fn apply_record_at(b: Board, bytes: &[u8]) -> Moved
     }
 }
 
-// 12 to 15, 30, or the board after the move of a record.
+// 12 to 15, 30, 33 to 40, or the board after the move of a record.
 pub fn apply_record(b: Board, bytes: &[u8]) -> Moved
     ensures { λ r. ⌜ Moves b (moveMade b (now (bytes .entry))) r ⌝ }
 {
@@ -122,7 +122,7 @@ pub fn is_line(list: &[u8]) -> bool
     over == 0
 }
 
-// 12 to 15, 31, 30 at the first bad move, or the board after all of them.
+// 12 to 15, 31, the number of the first bad move, or the board after all of them.
 pub fn replay(b: Board, bytes: &[u8]) -> Replayed
     ensures { λ r. ⌜ Ends (replayed b (now (bytes .entry))) r ⌝ }
 {

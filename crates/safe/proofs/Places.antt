@@ -11,7 +11,7 @@ use Rattle.board.specs.Table.{held}
 use Rattle.questions.specs.Questions.{topOf, cellOf}
 use Rattle.questions.specs.declared.Top.{Top}
 use Rattle.moves.specs.declared.Move.the-variants.{TableauToFoundation, FreeCellToFoundation}
-use Rattle.generate.proofs.Places.{cell-top}
+use Rattle.play.proofs.Tops.{cell-top}
 use Rattle.safe.specs.Inner.{cardsAt, homeMove}
 
 module _ (cells : List ℕ) (columns : List (List ℕ)) (place : ℕ) where

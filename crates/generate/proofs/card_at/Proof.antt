@@ -2,7 +2,8 @@
 use mathlib.Core.Path.{ap}
 use Rattle.generate.specs.Found.{source}
 use Rattle.generate.specs.declared.Way.{Way}
-use Rattle.generate.proofs.Places.{from-below, top-column, top-cell, top-home}
+use Rattle.play.proofs.Tops.{top-column, top-cell, top-home}
+use Rattle.generate.proofs.Places.{from-below}
 use borrow.Author.Needs.{needs}
 use Rattle.generate.proofs.card_at.Statement.{statement}
 use Rattle.generate.proofs.card_at.Tie as tie

@@ -1,9 +1,9 @@
 -- What `home_at` leaves to be shown: the top of a foundation has its count as value.
 use lib.ListN.{getD}
-use Rattle.generate.proofs.Places.{no-pile-top, a-pile-top}
+use Rattle.play.proofs.Tops.{no-pile-top, a-pile-top}
 use borrow.Author.Needs.{needs}
-use Rattle.generate.proofs.home_at.Statement.{statement}
-use Rattle.generate.proofs.home_at.Tie as tie
+use Rattle.play.proofs.rule.home_at.Statement.{statement}
+use Rattle.play.proofs.rule.home_at.Tie as tie
 
 element-copy-out-value : tie.Need-element-copy-out-value
 element-copy-out-value c = search needs
