@@ -87,6 +87,12 @@ module _ (f : ℕ → List Move) where
   pub gather-nothing : (n : ℕ) → ((k : ℕ) → k < n → f k ≡ []) → gather n f ≡ []
   gather-nothing n e = gather-end 0 n (omega arith) (λ k a b. e k b) ∙ gather-none
 
+  -- all lists but one are empty
+  pub gather-only : (n j : ℕ) → j < n → ((k : ℕ) → k < n → (k ≡ j → ⊥) → f k ≡ []) → gather n f ≡ f j
+  gather-only n j h e =
+      gather-end (j + 1) n (omega arith) (λ k a b. e k b (omega arith)) ∙ gather-more j
+      ∙ ap (λ (l : List Move). l ++ f j) (gather-nothing j (λ k l. e k (omega arith) (omega arith)))
+
 -- ---- what stands in it
 
 module _ (m : Move) where
