@@ -24,7 +24,7 @@ module _ (f : ℕ → List Move) where
   unfolding gather
   gather-more i = rw add-one refl
 
-  gather-long : (n : ℕ) → length (gather (suc n) f) ≡ length (gather n f) + length (f n)
+  pub gather-long : (n : ℕ) → length (gather (suc n) f) ≡ length (gather n f) + length (f n)
   unfolding gather
   gather-long n = length-append (gather n f) (f n)
 

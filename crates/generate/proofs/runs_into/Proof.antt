@@ -1,5 +1,4 @@
 -- What `runs_into` leaves to be shown: length after length.
-use native.Mathlib.Omega.{arith}
 use Prim.Native.Nat.{_-_}
 use Rattle.board.specs.Record.{shown, laid}
 use Rattle.generate.specs.Inner.{triedRun}
