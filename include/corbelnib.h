@@ -2,8 +2,8 @@
  *
  * Link with libcorbelnib.a (README says how it is built). No function allocates, blocks, keeps anything between calls or traps;
  * each ends. Two threads may call at once if they lend different memory. The archive wants memcpy and memset from outside, and
- * nothing else. Stack, measured on aarch64 and x86-64: corbelnib_judge 23 KB, corbelnib_candidates 15 KB, every other function under
- * 3 KB (docs/MEMORY.md).
+ * nothing else. Stack, measured on aarch64: corbelnib_judge 14 KB, corbelnib_candidates 9 KB, every other function under 3 KB
+ * (docs/MEMORY.md).
  *
  * What is lent: a pointer and then the number of elements behind it. A pointer is never NULL, points to as many elements as
  * are told (a length of 0 is taken) and is aligned for its type; no two lent parts of one call overlap, unless both are only

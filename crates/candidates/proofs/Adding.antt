@@ -14,7 +14,7 @@ use Rattle.moves.proofs.Writing.{adds-long, adds-more, adds-same}
 use Rattle.generate.proofs.Sizes.{most-found}
 use Rattle.safe.specs.Safe.{chosen, isSafe, homeMoves}
 use Rattle.candidates.specs.Candidates.{worthwhile, lateMoves, tried}
-use Rattle.candidates.specs.Inner.{movesIn}
+use Rattle.candidates.specs.Inner.{triedRoom, movesIn}
 use Rattle.candidates.proofs.Trying.{most-home, most-tried}
 use Rattle.candidates.proofs.Listing.{moves-written}
 
@@ -65,7 +65,7 @@ module _ (t : Table) where
       (append-assoc (found t ColumnToColumn) (found t CellToColumn ++ found t ColumnToCell) (lateMoves t)
       ∙ ap (λ (l : List Move). found t ColumnToColumn ++ l) (append-assoc (found t CellToColumn) (found t ColumnToCell) (lateMoves t)))
 
-  pub tried-room : (lent : ℕ) → 4180 ≤ lent → (0 + length (chosen (isSafe t) (homeMoves t) ++ rest)) * 5 ≤ lent
+  pub tried-room : (lent : ℕ) → triedRoom ≤ lent → (0 + length (chosen (isSafe t) (homeMoves t) ++ rest)) * 5 ≤ lent
   tried-room lent h = let l = ap length tried-is in let m = most-tried t in omega arith
 
   pub adds-tried : {old new : List ℕ} {n r : ℕ} → Adds old new n r (chosen (isSafe t) (homeMoves t) ++ rest) → Adds old new n r (tried t)

@@ -1,4 +1,4 @@
--- Every candidate can be said and is allowed, and there are at most 836.
+-- Every candidate can be said and is allowed, and there are at most 332.
 use mathlib.Core.Path.{_≡_, refl, sym, ap, _∙_, subst}
 use mathlib.Core.Bool.{Bool, true, false, cond, not}
 use mathlib.Core.List.{List, [], _∷_, _++_}
@@ -17,11 +17,12 @@ use Rattle.generate.specs.declared.Way.{Way}
 use Rattle.generate.specs.declared.Way.the-variants.{ColumnToColumn, ColumnToHome, ColumnToCell, CellToColumn, CellToHome, HomeToColumn}
 use Rattle.generate.proofs.Members.{found-allowed, found-said}
 use Rattle.generate.proofs.Sizes.{most-found}
+use Rattle.generate.proofs.Few.{few-runs}
 use Rattle.score.specs.Weights.{ENDGAME_UNSAFE_FOUNDATION_THRESHOLD}
 use Rattle.safe.specs.Safe.{chosen, isSafe, homeMoves}
 use Rattle.priority.specs.Priority.{priorityOn}
 use Rattle.candidates.specs.Candidates.{worthwhile, isUnsafe, lateMoves, tried, ranked, inOrder, candidates}
-use Rattle.candidates.specs.Inner.{Playable, AllPlayable}
+use Rattle.candidates.specs.Inner.{mostTried, Playable, AllPlayable}
 
 -- ---- moves that can be played
 
@@ -124,7 +125,7 @@ module _ (t : Table) where
       by-test true = omega arith
       by-test false = omega arith
 
-  pub most-tried : length (tried t) ≤ 836
+  pub most-tried : length (tried t) ≤ mostTried
   unfolding tried
   most-tried =
       let safes = chosen (isSafe t) (homeMoves t) in
@@ -141,7 +142,7 @@ module _ (t : Table) where
       let m = most-home in
       let b = fewer-chosen (worthwhile t) (found t HomeToColumn) in
       let b2 = most-found t HomeToColumn in
-      let r = most-found t ColumnToColumn in
+      let r = few-runs t in
       let d = most-found t CellToColumn in
       let u = most-found t ColumnToCell in
       let f = fewer-late in
@@ -161,7 +162,7 @@ module _ (t : Table) where
   length-ordered [] = refl
   length-ordered (m ∷ ms) = length-ranked m (inOrder t ms) ∙ ap suc (length-ordered ms)
 
-  -- no board has more than 836 candidates
-  pub most-candidates : length (candidates t) ≤ 836
+  -- no board has more than 332 candidates
+  pub most-candidates : length (candidates t) ≤ mostTried
   unfolding candidates
   most-candidates = let l = length-ordered (tried t) in let m = most-tried in omega arith

@@ -6,18 +6,22 @@ ghost use Rattle.board.specs.Record.{shown, laid};
 ghost use Rattle.board.specs.Inner.{Sound};
 ghost use Rattle.play.specs.Change.{Ready};
 ghost use Rattle.moves.specs.Written.{Adds};
-ghost use Rattle.generate.specs.Asked.{Finds, recordRoom};
+ghost use Rattle.generate.specs.Asked.{Finds};
 ghost use Rattle.candidates.specs.Candidates.{candidates};
-ghost use Rattle.candidates.specs.Inner.{Bears};
+ghost use Rattle.candidates.specs.Inner.{triedRoom, Bears};
 use board::Board;
 use board::CODES;
 use board::Examined;
 use board::Refusal;
 use board::verdict::inspect;
-use generate::MOST_RECORDS;
 use generate::RECORD_ROOM;
 use moves::Move;
 use questions::CountAnswer;
+
+// No board has more candidates, and the room for their records.
+pub const MOST_TRIED: usize = 332;
+
+pub const TRIED_ROOM: usize = 5 * MOST_TRIED;
 
 pub mod list;
 pub mod ranks;
@@ -38,12 +42,12 @@ pub struct Child {
 // The candidates of a well formed board, in order.
 pub fn candidates_at(b: Board, out: &mut [u8]) -> usize
     requires { ⌜ Sound b ⌝ }
-    requires { ⌜ recordRoom ≤ length (now out) ⌝ }
+    requires { ⌜ triedRoom ≤ length (now out) ⌝ }
     ensures { λ r. ⌜ Adds (now (out .entry)) (now (out .exit)) 0 r (candidates (shown b)) ⌝ }
 {
     let before = score::measure::compute_features(&b.cells, &b.foundation, &b.counts, &b.tableau);
-    let mut list = [0u8; RECORD_ROOM];
-    let mut keys = [0u64; MOST_RECORDS];
+    let mut list = [0u8; TRIED_ROOM];
+    let mut keys = [0u64; MOST_TRIED];
     let n = list::tried_at(b, before, &mut list);
     ranks::rank_all(b, before, &list, n, &mut keys);
     ranks::emit(&list, &keys, n, out)

@@ -6,7 +6,6 @@ ghost use Prim.Native.Nat.{_+_, _*_, _≤_};
 ghost use lib.ListN.{length};
 ghost use Rattle.board.specs.Record.{shown};
 ghost use Rattle.board.specs.Inner.{Sound};
-ghost use Rattle.moves.specs.Move.{card};
 ghost use Rattle.moves.specs.Record.{possible, moveOf};
 ghost use Rattle.play.specs.Change.{Ready};
 ghost use Rattle.generate.specs.Found.{found};
@@ -15,11 +14,9 @@ ghost use Rattle.generate.specs.declared.Way.the-variants.{ColumnToColumn, Colu
 ghost use Rattle.score.specs.Features.{featuresOf};
 ghost use Rattle.safe.specs.Safe.{chosen, isSafe, homeMoves};
 ghost use Rattle.candidates.specs.Candidates.{better, worthwhile, lateMoves, tried};
-ghost use Rattle.candidates.specs.Inner.{meets, movesIn, Holds};
-ghost use Rattle.generate.specs.Asked.{recordRoom};
+ghost use Rattle.candidates.specs.Inner.{triedRoom, meets, movesIn, Holds};
 use crate::Test;
 use board::Board;
-use card::Card;
 use generate::Way;
 use moves::Decoded;
 use moves::Move;
@@ -44,22 +41,8 @@ fn is_safe(b: Board, m: Move) -> bool
     requires { ⌜ Ready b m ⌝ }
     ensures { λ r. ⌜ r ≡ isSafe (shown b) m ⌝ }
 {
-    let code = card::code_of(card_of(m));
+    let code = card::code_of(moves::deepest_of(m));
     safe::is_safe_at(&b.foundation, code)
-}
-
-// The deepest card that a move takes.
-fn card_of(m: Move) -> Card
-    ensures { λ r. ⌜ r ≡ card m ⌝ }
-{
-    match m {
-        Move::TableauToTableau { card, .. } => card,
-        Move::TableauToFoundation { card, .. } => card,
-        Move::TableauToFreeCell { card, .. } => card,
-        Move::FreeCellToTableau { card, .. } => card,
-        Move::FreeCellToFoundation { card, .. } => card,
-        Move::FoundationToTableau { card, .. } => card,
-    }
 }
 
 // A move meets a test.
@@ -224,7 +207,7 @@ fn late_moves_at(
 pub fn tried_at(b: Board, before: Features, out: &mut [u8]) -> usize
     requires { ⌜ Sound b ⌝ }
     requires { ⌜ before ≡ featuresOf (shown b) ⌝ }
-    requires { ⌜ recordRoom ≤ length (now out) ⌝ }
+    requires { ⌜ triedRoom ≤ length (now out) ⌝ }
     ensures { λ r. ⌜ Adds (now (out .entry)) (now (out .exit)) 0 r (tried (shown b)) ⌝ }
 {
     let mut homes = [0u8; 60];

@@ -11,7 +11,7 @@ ghost use Rattle.memory.specs.Steps.{counted, countedWith, Wrote};
 ghost use Rattle.children.specs.Inner.{Chooses, Birth, Stands, Bears, Expands};
 ghost use Rattle.memory.specs.Memory.{lent};
 use board::Board;
-use generate::RECORD_ROOM;
+use candidates::TRIED_ROOM;
 use memory::Counts;
 use memory::Growth;
 use memory::Room;
@@ -209,7 +209,7 @@ pub fn expand(
     requires { ⌜ cost ≡ costAt (now nodes) i ⌝ }
     ensures { λ r. ⌜ Expands root room (lent (now (nodes .entry)) (now (heap .entry)) (now (keys .entry)) (now (costs .entry))) (lent (now (nodes .exit)) (now (heap .exit)) (now (keys .exit)) (now (costs .exit))) c i r ⌝ }
 {
-    let mut list = [0u8; RECORD_ROOM];
+    let mut list = [0u8; TRIED_ROOM];
     let n = candidates::candidates_at(b, &mut list);
     bear_all(
         root,

@@ -24,7 +24,7 @@ module _ (f : ℕ → List Move) where
   unfolding gather
   gather-more i = rw add-one refl
 
-  gather-long : (n : ℕ) → length (gather (suc n) f) ≡ length (gather n f) + length (f n)
+  pub gather-long : (n : ℕ) → length (gather (suc n) f) ≡ length (gather n f) + length (f n)
   unfolding gather
   gather-long n = length-append (gather n f) (f n)
 
@@ -86,6 +86,12 @@ module _ (f : ℕ → List Move) where
 
   pub gather-nothing : (n : ℕ) → ((k : ℕ) → k < n → f k ≡ []) → gather n f ≡ []
   gather-nothing n e = gather-end 0 n (omega arith) (λ k a b. e k b) ∙ gather-none
+
+  -- all lists but one are empty
+  pub gather-only : (n j : ℕ) → j < n → ((k : ℕ) → k < n → (k ≡ j → ⊥) → f k ≡ []) → gather n f ≡ f j
+  gather-only n j h e =
+      gather-end (j + 1) n (omega arith) (λ k a b. e k b (omega arith)) ∙ gather-more j
+      ∙ ap (λ (l : List Move). l ++ f j) (gather-nothing j (λ k l. e k (omega arith) (omega arith)))
 
 -- ---- what stands in it
 

@@ -5,6 +5,7 @@ pub mod Places
 pub mod Offering
 pub mod Columns
 pub mod Sizes
+pub mod Few
 pub mod Answering
 pub mod Members
 pub mod Unique

@@ -15,7 +15,7 @@ use Rattle.generate.specs.declared.Way.the-variants.{ColumnToColumn, Col
 use Rattle.generate.proofs.Gathering.{gather-most, gather-but-one}
 use Rattle.generate.proofs.Columns.{own-column}
 
-most-one : (t : Table) (m : Move) → length (ifAllowed t m) ≤ 1
+pub most-one : (t : Table) (m : Move) → length (ifAllowed t m) ≤ 1
 unfolding ifAllowed
 most-one t m = by-test (allowed t m)
   where
@@ -24,7 +24,7 @@ most-one t m = by-test (allowed t m)
     by-test false = omega arith
 
 module _ (t : Table) (w : Way) where
-  most-between : (i j : ℕ) → length (foundBetween t w i j) ≤ lengthCount w * 1
+  pub most-between : (i j : ℕ) → length (foundBetween t w i j) ≤ lengthCount w * 1
   unfolding foundBetween
   most-between i j = gather-most (λ k. ifAllowed t (offered t w i j (suc k))) (lengthCount w) 1 (λ k h. most-one t (offered t w i j (suc k)))
 

@@ -2,7 +2,7 @@
 ghost use mathlib.Core.Path.{_≡_};
 ghost use mathlib.Core.Bool.{true};
 ghost use Prim.Native.Nat.{suc, min, _+_, _*_, _<_, _≤_};
-ghost use lib.ListN.{length};
+ghost use lib.ListN.{length, getD};
 ghost use Rattle.card.specs.Card.{isValue, codeOf};
 ghost use Rattle.board.specs.Record.{shown, columnAt, laid};
 ghost use Rattle.board.specs.Inner.{Sound};
@@ -11,10 +11,10 @@ ghost use Rattle.questions.specs.declared.Top.the-variants.{Is};
 ghost use Rattle.runs.specs.Run.{runLength};
 ghost use Rattle.moves.specs.Move.{to};
 ghost use Rattle.moves.specs.Play.{there, takes};
-ghost use Rattle.generate.specs.Found.{sourceCount, targetCount, source, moveFrom, offered, ifAllowed, foundBetween, foundFrom, found};
+ghost use Rattle.generate.specs.Found.{sourceCount, targetCount, source, moveFrom, offered, ifAllowed, gather, foundBetween, foundFrom, found};
 ghost use Rattle.moves.specs.Written.{Adds};
 ghost use Rattle.generate.specs.Asked.{Finds};
-ghost use Rattle.generate.specs.Inner.{Offers, Reaches};
+ghost use Rattle.generate.specs.Inner.{Offers, Reaches, triedRun, Between};
 ghost use Rattle.generate.specs.declared.Way.the-variants.{ColumnToColumn, ColumnToHome, ColumnToCell, CellToColumn, CellToHome, HomeToColumn};
 use board::Board;
 use board::CODES;
@@ -267,6 +267,61 @@ fn lesser(a: usize, b: usize) -> usize
     b
 }
 
+// The runs of up to `last` cards between two columns, length after length.
+fn runs_into<'a>(
+    cells: &'a [u8; 4],
+    foundation: &'a [u8; 4],
+    counts: &'a [u8; 8],
+    tableau: &'a [u8; CODES],
+    i: usize,
+    j: usize,
+    last: usize,
+    out: &mut [u8],
+    n: usize,
+) -> usize
+    requires { ⌜ Between (laid (now cells) (now foundation) (now counts) (now tableau)) i j last ⌝ }
+    requires { ⌜ (n + length (gather last (triedRun (shown (laid (now cells) (now foundation) (now counts) (now tableau))) i j))) * 5 ≤ length (now out) ⌝ }
+    ensures { λ r. ⌜ Adds (now (out .entry)) (now (out .exit)) n r (gather last (triedRun (shown (laid (now (cells .entry)) (now (foundation .entry)) (now (counts .entry)) (now (tableau .entry)))) i j)) ⌝ }
+{
+    let mut made = n;
+    let mut k = 0;
+    while k < last {
+        made = offer_run(cells, foundation, counts, tableau, i, j, k, out, made);
+        k += 1;
+    }
+    made
+}
+
+// The same onto an occupied column: one length can fit, by the two top cards, and no other is looked at.
+fn run_onto<'a>(
+    cells: &'a [u8; 4],
+    foundation: &'a [u8; 4],
+    counts: &'a [u8; 8],
+    tableau: &'a [u8; CODES],
+    i: usize,
+    j: usize,
+    last: usize,
+    out: &mut [u8],
+    n: usize,
+) -> usize
+    requires { ⌜ Between (laid (now cells) (now foundation) (now counts) (now tableau)) i j last ⌝ }
+    requires { ⌜ 0 < getD (now counts) j 0 ⌝ }
+    requires { ⌜ (n + length (gather last (triedRun (shown (laid (now cells) (now foundation) (now counts) (now tableau))) i j))) * 5 ≤ length (now out) ⌝ }
+    ensures { λ r. ⌜ Adds (now (out .entry)) (now (out .exit)) n r (gather last (triedRun (shown (laid (now (cells .entry)) (now (foundation .entry)) (now (counts .entry)) (now (tableau .entry)))) i j)) ⌝ }
+{
+    let upper = rules::top_value(counts, tableau, j);
+    let top = rules::top_value(counts, tableau, i);
+    if upper <= top {
+        return n;
+    }
+    let only = upper - top;
+    if last < only {
+        return n;
+    }
+    let k = only - 1;
+    offer_run(cells, foundation, counts, tableau, i, j, k, out, n)
+}
+
 // The runs between two columns, none from a column to itself; the longest of the first has `run` cards.
 fn runs_between<'a>(
     cells: &'a [u8; 4],
@@ -291,13 +346,10 @@ fn runs_between<'a>(
     }
     let most = rules::most_at(cells, counts, tableau, j);
     let last = lesser(run, most);
-    let mut made = n;
-    let mut k = 0;
-    while k < last {
-        made = offer_run(cells, foundation, counts, tableau, i, j, k, out, made);
-        k += 1;
+    if counts[j] == 0 {
+        return runs_into(cells, foundation, counts, tableau, i, j, last, out, n);
     }
-    made
+    run_onto(cells, foundation, counts, tableau, i, j, last, out, n)
 }
 
 // The runs from a column.

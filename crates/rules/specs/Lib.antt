@@ -2,3 +2,4 @@
 pub mod Fit
 pub mod Limit
 pub mod Asked
+pub mod Inner

@@ -8,6 +8,7 @@ ghost use Rattle.card.specs.Card.{isCard};
 ghost use Rattle.board.specs.Record.{columnAt};
 ghost use Rattle.board.specs.Inner.{GoodCells, GoodPiles, GoodColumns};
 ghost use Rattle.questions.specs.Told.{countTold};
+ghost use Rattle.rules.specs.Inner.{topValue};
 ghost use Rattle.rules.specs.Fit.{fitsOn, homeTakes};
 ghost use Rattle.runs.specs.Run.{runLength};
 ghost use Rattle.rules.specs.Limit.{usable, mostMoved};
@@ -40,6 +41,21 @@ pub fn fit_at<'a>(counts: &'a [u8; 8], tableau: &'a [u8; CODES], i: usize, code:
     let first = i * ROOM;
     let last = first + (count - 1);
     runs::may_lie_on(tableau[last], code)
+}
+
+// The value of a column's top card, 0 if there is none.
+pub fn top_value<'a>(counts: &'a [u8; 8], tableau: &'a [u8; CODES], i: usize) -> usize
+    requires { ⌜ GoodColumns (now counts) (now tableau) ⌝ }
+    requires { ⌜ i < 8 ⌝ }
+    ensures { λ r. ⌜ r ≡ topValue (columnAt (now (counts .entry)) (now (tableau .entry)) i) ⌝ }
+{
+    let count = base::wide(counts[i]);
+    if count == 0 {
+        return 0;
+    }
+    let first = i * ROOM;
+    let last = first + (count - 1);
+    base::wide(tableau[last]) / 16
 }
 
 // The longest run that ends at the top of a column.
