@@ -54,7 +54,10 @@ fn meets_test(test: Test, b: Board, before: Features, m: Move) -> bool
     match test {
         Test::Safe => is_safe(b, m),
         Test::Unsafe => !is_safe(b, m),
-        Test::Worthwhile => is_better(before, priority::features_after(b, m)),
+        Test::Worthwhile => is_better(
+            before,
+            priority::features_after(&b.cells, &b.foundation, &b.counts, &b.tableau, m),
+        ),
     }
 }
 
