@@ -148,7 +148,7 @@ pub fn replay_to(
 }
 
 // The same on a board by value.
-fn replay_at(b: Board, bytes: &[u8]) -> Replayed
+pub fn replay_at(b: Board, bytes: &[u8]) -> Replayed
     requires { ⌜ Sound b ⌝ }
     requires { ⌜ length (now bytes) % 5 ≡ 0 ⌝ }
     ensures { λ r. ⌜ Ends (lineFrom b (recordsIn (now (bytes .entry)))) r ⌝ }
