@@ -40,16 +40,31 @@ pub struct Child {
 }
 
 // The candidates of a well formed board, in order.
-pub fn candidates_at(b: Board, out: &mut [u8]) -> usize
-    requires { ⌜ Sound b ⌝ }
+pub fn candidates_at<'a>(
+    cells: &'a [u8; 4],
+    foundation: &'a [u8; 4],
+    counts: &'a [u8; 8],
+    tableau: &'a [u8; CODES],
+    out: &mut [u8],
+) -> usize
+    requires { ⌜ Sound (laid (now cells) (now foundation) (now counts) (now tableau)) ⌝ }
     requires { ⌜ triedRoom ≤ length (now out) ⌝ }
-    ensures { λ r. ⌜ Adds (now (out .entry)) (now (out .exit)) 0 r (candidates (shown b)) ⌝ }
+    ensures { λ r. ⌜ Adds (now (out .entry)) (now (out .exit)) 0 r (candidates (shown (laid (now (cells .entry)) (now (foundation .entry)) (now (counts .entry)) (now (tableau .entry))))) ⌝ }
 {
-    let before = score::measure::compute_features(&b.cells, &b.foundation, &b.counts, &b.tableau);
+    let before = score::measure::compute_features(cells, foundation, counts, tableau);
     let mut list = [0u8; TRIED_ROOM];
     let mut keys = [0u64; MOST_TRIED];
-    let n = list::tried_at(b, before, &mut list);
-    ranks::rank_all(b, before, &list, n, &mut keys);
+    let n = list::tried_at(cells, foundation, counts, tableau, before, &mut list);
+    ranks::rank_all(
+        cells,
+        foundation,
+        counts,
+        tableau,
+        before,
+        &list,
+        n,
+        &mut keys,
+    );
     ranks::emit(&list, &keys, n, out)
 }
 
@@ -101,5 +116,6 @@ pub fn candidates_of(b: Board, out: &mut [u8]) -> CountAnswer
     if out.len() < RECORD_ROOM {
         return CountAnswer::Refused(Refusal::LittleRoom);
     }
-    CountAnswer::Count(candidates_at(b, out))
+    let made = candidates_at(&b.cells, &b.foundation, &b.counts, &b.tableau, out);
+    CountAnswer::Count(made)
 }

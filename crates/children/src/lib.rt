@@ -210,7 +210,7 @@ pub fn expand(
     ensures { λ r. ⌜ Expands root room (lent (now (nodes .entry)) (now (heap .entry)) (now (keys .entry)) (now (costs .entry))) (lent (now (nodes .exit)) (now (heap .exit)) (now (keys .exit)) (now (costs .exit))) c i r ⌝ }
 {
     let mut list = [0u8; TRIED_ROOM];
-    let n = candidates::candidates_at(b, &mut list);
+    let n = candidates::candidates_at(&b.cells, &b.foundation, &b.counts, &b.tableau, &mut list);
     bear_all(
         root,
         i,
