@@ -77,7 +77,7 @@ pub fn apply_record_to(
 }
 
 // The same on a board by value.
-fn apply_record_at(b: Board, bytes: &[u8]) -> Moved
+pub fn apply_record_at(b: Board, bytes: &[u8]) -> Moved
     requires { ⌜ Sound b ⌝ }
     ensures { λ r. ⌜ Moves b (stepped b (now (bytes .entry))) r ⌝ }
 {
