@@ -33,12 +33,6 @@ pub enum Test {
     Worthwhile,
 }
 
-// The board that a candidate and the chain after it lead to, and how many moves that is.
-pub struct Child {
-    pub moves: usize,
-    pub board: Board,
-}
-
 // The candidates of a well formed board, in order.
 pub fn candidates_at<'a>(
     cells: &'a [u8; 4],
@@ -84,26 +78,6 @@ pub fn child_to(
     let after = safe::chain_to(cells, foundation, counts, tableau);
     let moves = after + 1;
     moves
-}
-
-// The child that a candidate makes.
-pub fn child_at(b: Board, m: Move) -> Child
-    requires { ⌜ Ready b m ⌝ }
-    ensures { λ r. ⌜ Bears b m (r .moves) (r .board) ⌝ }
-    ensures { λ r. ⌜ Sound (r .board) ⌝ }
-{
-    let mut cells = b.cells;
-    let mut foundation = b.foundation;
-    let mut counts = b.counts;
-    let mut tableau = b.tableau;
-    let moves = child_to(m, &mut cells, &mut foundation, &mut counts, &mut tableau);
-    let board = Board {
-        cells,
-        foundation,
-        counts,
-        tableau,
-    };
-    Child { moves, board }
 }
 
 // 12 to 15, 21, or the candidates of a board in order.
