@@ -7,6 +7,6 @@ use Rattle.board.specs.declared.Board.{Board}
 use Rattle.moves.specs.declared.Move.{Move}
 use Rattle.candidates.specs.Inner.{Bears}
 
--- of `child_to` and `child_at`
+-- of `child_to`
 pub child-once : {b : Board} {m : Move} {n n′ : ℕ} {c c′ : Board} → Bears b m n c → Bears b m n′ c′ → (n ≡ n′) × (c ≡ c′)
 child-once p q = (once (p .many) (q .many), once (p .becomes) (q .becomes))

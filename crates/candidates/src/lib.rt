@@ -33,23 +33,32 @@ pub enum Test {
     Worthwhile,
 }
 
-// The board that a candidate and the chain after it lead to, and how many moves that is.
-pub struct Child {
-    pub moves: usize,
-    pub board: Board,
-}
-
 // The candidates of a well formed board, in order.
-pub fn candidates_at(b: Board, out: &mut [u8]) -> usize
-    requires { ⌜ Sound b ⌝ }
+pub fn candidates_at<'a>(
+    cells: &'a [u8; 4],
+    foundation: &'a [u8; 4],
+    counts: &'a [u8; 8],
+    tableau: &'a [u8; CODES],
+    out: &mut [u8],
+) -> usize
+    requires { ⌜ Sound (laid (now cells) (now foundation) (now counts) (now tableau)) ⌝ }
     requires { ⌜ triedRoom ≤ length (now out) ⌝ }
-    ensures { λ r. ⌜ Adds (now (out .entry)) (now (out .exit)) 0 r (candidates (shown b)) ⌝ }
+    ensures { λ r. ⌜ Adds (now (out .entry)) (now (out .exit)) 0 r (candidates (shown (laid (now (cells .entry)) (now (foundation .entry)) (now (counts .entry)) (now (tableau .entry))))) ⌝ }
 {
-    let before = score::measure::compute_features(&b.cells, &b.foundation, &b.counts, &b.tableau);
+    let before = score::measure::compute_features(cells, foundation, counts, tableau);
     let mut list = [0u8; TRIED_ROOM];
     let mut keys = [0u64; MOST_TRIED];
-    let n = list::tried_at(b, before, &mut list);
-    ranks::rank_all(b, before, &list, n, &mut keys);
+    let n = list::tried_at(cells, foundation, counts, tableau, before, &mut list);
+    ranks::rank_all(
+        cells,
+        foundation,
+        counts,
+        tableau,
+        before,
+        &list,
+        n,
+        &mut keys,
+    );
     ranks::emit(&list, &keys, n, out)
 }
 
@@ -71,26 +80,6 @@ pub fn child_to(
     moves
 }
 
-// The child that a candidate makes.
-pub fn child_at(b: Board, m: Move) -> Child
-    requires { ⌜ Ready b m ⌝ }
-    ensures { λ r. ⌜ Bears b m (r .moves) (r .board) ⌝ }
-    ensures { λ r. ⌜ Sound (r .board) ⌝ }
-{
-    let mut cells = b.cells;
-    let mut foundation = b.foundation;
-    let mut counts = b.counts;
-    let mut tableau = b.tableau;
-    let moves = child_to(m, &mut cells, &mut foundation, &mut counts, &mut tableau);
-    let board = Board {
-        cells,
-        foundation,
-        counts,
-        tableau,
-    };
-    Child { moves, board }
-}
-
 // 12 to 15, 21, or the candidates of a board in order.
 pub fn candidates_of(b: Board, out: &mut [u8]) -> CountAnswer
     ensures { λ r. ⌜ Finds b (candidates (shown b)) (now (out .entry)) (now (out .exit)) r ⌝ }
@@ -101,5 +90,6 @@ pub fn candidates_of(b: Board, out: &mut [u8]) -> CountAnswer
     if out.len() < RECORD_ROOM {
         return CountAnswer::Refused(Refusal::LittleRoom);
     }
-    CountAnswer::Count(candidates_at(b, out))
+    let made = candidates_at(&b.cells, &b.foundation, &b.counts, &b.tableau, out);
+    CountAnswer::Count(made)
 }

@@ -1,7 +1,7 @@
 // A node's children, one after the other (after freecell/solver.rs, the loop over `expansions`, changed: NOTICE).
 ghost use mathlib.Core.Path.{_≡_};
 ghost use Prim.Native.Nat.{_<_, _≤_};
-ghost use Rattle.board.specs.Record.{shown};
+ghost use Rattle.board.specs.Record.{shown, laid};
 ghost use Rattle.costs.specs.Entries.{used};
 ghost use Rattle.costs.specs.Table.{Table};
 ghost use Rattle.candidates.specs.Candidates.{candidates};
@@ -11,6 +11,7 @@ ghost use Rattle.memory.specs.Steps.{counted, countedWith, Wrote};
 ghost use Rattle.children.specs.Inner.{Chooses, Birth, Stands, Bears, Expands};
 ghost use Rattle.memory.specs.Memory.{lent};
 use board::Board;
+use board::CODES;
 use candidates::TRIED_ROOM;
 use memory::Counts;
 use memory::Growth;
@@ -71,13 +72,16 @@ fn count_birth(c: Counts, progress: usize) -> Counts
 }
 
 // A child is written: its node, its entry in the table, its key among the waiting.
-fn birth(
+fn birth<'a>(
     parent: usize,
     m: Move,
     cost: usize,
     slot: usize,
     key: u64,
-    child: Board,
+    cells: &'a [u8; 4],
+    foundation: &'a [u8; 4],
+    counts: &'a [u8; 8],
+    tableau: &'a [u8; CODES],
     room: Room,
     c: Counts,
     nodes: &mut [u32],
@@ -85,16 +89,11 @@ fn birth(
     keys: &mut [u64],
     costs: &mut [u8],
 ) -> Counts
-    requires { ⌜ Birth room (lent (now nodes) (now heap) (now keys) (now costs)) c parent m cost slot key child ⌝ }
-    ensures { λ r. ⌜ Wrote room (lent (now (nodes .entry)) (now (heap .entry)) (now (keys .entry)) (now (costs .entry))) (lent (now (nodes .exit)) (now (heap .exit)) (now (keys .exit)) (now (costs .exit))) c parent m cost slot (shown child) ⌝ }
-    ensures { λ r. ⌜ r ≡ counted c (shown child) ⌝ }
+    requires { ⌜ Birth room (lent (now nodes) (now heap) (now keys) (now costs)) c parent m cost slot key (laid (now cells) (now foundation) (now counts) (now tableau)) ⌝ }
+    ensures { λ r. ⌜ Wrote room (lent (now (nodes .entry)) (now (heap .entry)) (now (keys .entry)) (now (costs .entry))) (lent (now (nodes .exit)) (now (heap .exit)) (now (keys .exit)) (now (costs .exit))) c parent m cost slot (shown (laid (now (cells .entry)) (now (foundation .entry)) (now (counts .entry)) (now (tableau .entry)))) ⌝ }
+    ensures { λ r. ⌜ r ≡ counted c (shown (laid (now (cells .entry)) (now (foundation .entry)) (now (counts .entry)) (now (tableau .entry)))) ⌝ }
 {
-    let f = score::measure::compute_features(
-        &child.cells,
-        &child.foundation,
-        &child.counts,
-        &child.tableau,
-    );
+    let f = score::measure::compute_features(cells, foundation, counts, tableau);
     let hope = score::scores::heuristic_key(f);
     let sum = cost + hope;
     let waits = frontier::key::pack(sum, hope, c.born);
@@ -124,13 +123,16 @@ fn bear(
     requires { ⌜ Playable (shown b) m ⌝ }
     ensures { λ r. ⌜ Bears root room (lent (now (nodes .entry)) (now (heap .entry)) (now (keys .entry)) (now (costs .entry))) (lent (now (nodes .exit)) (now (heap .exit)) (now (keys .exit)) (now (costs .exit))) c i m r ⌝ }
 {
-    let child = candidates::child_at(b, m);
-    let total = cost + child.moves;
+    let mut cells = b.cells;
+    let mut foundation = b.foundation;
+    let mut counts = b.counts;
+    let mut tableau = b.tableau;
+    let made = candidates::child_to(m, &mut cells, &mut foundation, &mut counts, &mut tableau);
+    let total = cost + made;
     if MOST_MOVES < total {
         return Growth::Grown(c);
     }
-    let next = child.board;
-    let key = signature::signature_at(&next.cells, &next.foundation, &next.counts, &next.tableau);
+    let key = signature::signature_at(&cells, &foundation, &counts, &tableau);
     let Choice::Slot(slot) = choose(keys, costs, room, key, total) else {
         return Growth::Grown(c);
     };
@@ -143,7 +145,10 @@ fn bear(
         total,
         slot,
         key,
-        next,
+        &cells,
+        &foundation,
+        &counts,
+        &tableau,
         room,
         c,
         nodes,
@@ -210,7 +215,7 @@ pub fn expand(
     ensures { λ r. ⌜ Expands root room (lent (now (nodes .entry)) (now (heap .entry)) (now (keys .entry)) (now (costs .entry))) (lent (now (nodes .exit)) (now (heap .exit)) (now (keys .exit)) (now (costs .exit))) c i r ⌝ }
 {
     let mut list = [0u8; TRIED_ROOM];
-    let n = candidates::candidates_at(b, &mut list);
+    let n = candidates::candidates_at(&b.cells, &b.foundation, &b.counts, &b.tableau, &mut list);
     bear_all(
         root,
         i,

@@ -74,7 +74,11 @@ pub extern "C" fn corbelnib_move(board: &[u8], bytes: &[u8], after: &mut [u8]) -
     if board.len() != wire::BYTES {
         return 12;
     }
-    let moved = replay::apply_record(wire::board_in(board), bytes);
+    let start = wire::board_in(board);
+    if let Examined::Refused(why) = board::examine(start) {
+        return board::number(why);
+    }
+    let moved = replay::apply_record_at(start, bytes);
     let said = moved.said;
     let b = moved.board;
     hand::board(said, b, after)

@@ -4,7 +4,7 @@ use mathlib.Core.Bool.{true, false, _&&_}
 use mathlib.Core.List.{List, [], _∷_}
 use Prim.Native.Nat.{ℕ, _<_, _≤_}
 use native.Mathlib.Omega.{arith}
-use borrow.Author.Tests.{le-leb, lt-leb, eq-eqb, ne-eqb}
+use borrow.Author.Tests.{le-leb, lt-leb, eq-eqb}
 use lib.Dec.{eqb, leb}
 use lib.ListN.{length, getD}
 use Rattle.card.specs.Card.{codeOf}
@@ -24,21 +24,6 @@ module _ (t : Table) (m : Move) where
   pub deny-some : length (there t (from m)) < 1 → allowed t m ≡ false
   unfolding allowed
   deny-some h = second-fails (elsewhere (from m) (to m)) _ (first-fails (leb 1 (length (there t (from m)))) _ (lt-leb 1 (length (there t (from m))) h))
-
-  pub deny-enough : length (there t (from m)) < count m → allowed t m ≡ false
-  unfolding allowed
-  deny-enough h =
-      second-fails (elsewhere (from m) (to m)) _
-      (second-fails (leb 1 (length (there t (from m)))) _
-      (first-fails (leb (count m) (length (there t (from m)))) _ (lt-leb (count m) (length (there t (from m))) h)))
-
-  pub deny-named : (getD (hand t m) 0 0 ≡ codeOf (card m) → ⊥) → allowed t m ≡ false
-  unfolding allowed
-  deny-named d =
-      second-fails (elsewhere (from m) (to m)) _
-      (second-fails (leb 1 (length (there t (from m)))) _
-      (second-fails (leb (count m) (length (there t (from m)))) _
-      (first-fails (eqb (getD (hand t m) 0 0) (codeOf (card m))) _ (ne-eqb (getD (hand t m) 0 0) (codeOf (card m)) d))))
 
   -- past the first four tests the others decide
   module _ (away : elsewhere (from m) (to m) ≡ true) (some : 1 ≤ length (there t (from m))) (enough : count m ≤ length (there t (from m)))

@@ -1,14 +1,17 @@
 // The local priority of a move (after freecell/solver.rs, `local_priority`, changed: NOTICE).
 ghost use mathlib.Core.Path.{_≡_};
-ghost use Rattle.board.specs.Record.{shown};
+ghost use Rattle.board.specs.Record.{shown, laid};
+ghost use Rattle.board.specs.Inner.{Sound};
+ghost use Rattle.moves.specs.Record.{moveAsked};
 ghost use Rattle.moves.specs.Play.{afterMove};
 ghost use Rattle.play.specs.Change.{Ready};
 ghost use Rattle.score.specs.Asked.{scoreTold};
-ghost use Rattle.priority.specs.Asked.{priorityAsked};
+ghost use Rattle.priority.specs.Asked.{priorityBy, priorityAsked};
 ghost use Rattle.generate.specs.Found.{wayOf};
 ghost use Rattle.score.specs.Features.{Bounded, featuresOf};
 ghost use Rattle.priority.specs.Priority.{baseAdds, baseTakes, priorityAdds, priorityTakes, priorityKey, priorityOn};
 use board::Board;
+use board::CODES;
 use board::Examined;
 use board::Refusal;
 use board::verdict::inspect;
@@ -105,43 +108,87 @@ fn priority_key(way: Way, before: Features, after: Features) -> usize
     raised - priority_takes(way, before, after)
 }
 
-// The features of the board after a move that can be made.
-pub fn features_after(b: Board, m: Move) -> Features
-    requires { ⌜ Ready b m ⌝ }
-    ensures { λ r. ⌜ r ≡ featuresOf (afterMove (shown b) m) ⌝ }
+// The features of the board after a move that can be made; the move is made on a copy.
+pub fn features_after<'a>(
+    cells: &'a [u8; 4],
+    foundation: &'a [u8; 4],
+    counts: &'a [u8; 8],
+    tableau: &'a [u8; CODES],
+    m: Move,
+) -> Features
+    requires { ⌜ Ready (laid (now cells) (now foundation) (now counts) (now tableau)) m ⌝ }
+    ensures { λ r. ⌜ r ≡ featuresOf (afterMove (shown (laid (now (cells .entry)) (now (foundation .entry)) (now (counts .entry)) (now (tableau .entry)))) m) ⌝ }
     ensures { λ r. ⌜ Bounded r ⌝ }
 {
-    let after = play::apply_at(b, m);
-    score::measure::compute_features(
-        &after.cells,
-        &after.foundation,
-        &after.counts,
-        &after.tableau,
-    )
+    let mut then_cells = *cells;
+    let mut then_foundation = *foundation;
+    let mut then_counts = *counts;
+    let mut then_tableau = *tableau;
+    play::apply_to(
+        m,
+        &mut then_cells,
+        &mut then_foundation,
+        &mut then_counts,
+        &mut then_tableau,
+    );
+    score::measure::compute_features(&then_cells, &then_foundation, &then_counts, &then_tableau)
 }
 
 // The raised priority of a move that can be made.
-pub fn key_at(b: Board, before: Features, m: Move) -> usize
-    requires { ⌜ Ready b m ⌝ }
-    requires { ⌜ before ≡ featuresOf (shown b) ⌝ }
-    ensures { λ r. ⌜ r ≡ priorityKey (wayOf m) (featuresOf (shown b)) (featuresOf (afterMove (shown b) m)) ⌝ }
+pub fn key_at<'a>(
+    cells: &'a [u8; 4],
+    foundation: &'a [u8; 4],
+    counts: &'a [u8; 8],
+    tableau: &'a [u8; CODES],
+    before: Features,
+    m: Move,
+) -> usize
+    requires { ⌜ Ready (laid (now cells) (now foundation) (now counts) (now tableau)) m ⌝ }
+    requires { ⌜ before ≡ featuresOf (shown (laid (now cells) (now foundation) (now counts) (now tableau))) ⌝ }
+    ensures { λ r. ⌜ r ≡ priorityKey (wayOf m) (featuresOf (shown (laid (now (cells .entry)) (now (foundation .entry)) (now (counts .entry)) (now (tableau .entry))))) (featuresOf (afterMove (shown (laid (now (cells .entry)) (now (foundation .entry)) (now (counts .entry)) (now (tableau .entry)))) m)) ⌝ }
 {
-    let after = features_after(b, m);
+    let after = features_after(cells, foundation, counts, tableau, m);
     priority_key(way_of(m), before, after)
 }
 
 // The local priority of a move that can be made.
-pub fn local_priority(b: Board, m: Move) -> i64
-    requires { ⌜ Ready b m ⌝ }
-    ensures { λ r. ⌜ r ≡ priorityOn (shown b) m ⌝ }
+fn local_priority<'a>(
+    cells: &'a [u8; 4],
+    foundation: &'a [u8; 4],
+    counts: &'a [u8; 8],
+    tableau: &'a [u8; CODES],
+    m: Move,
+) -> i64
+    requires { ⌜ Ready (laid (now cells) (now foundation) (now counts) (now tableau)) m ⌝ }
+    ensures { λ r. ⌜ r ≡ priorityOn (shown (laid (now (cells .entry)) (now (foundation .entry)) (now (counts .entry)) (now (tableau .entry)))) m ⌝ }
 {
-    let before = score::measure::compute_features(&b.cells, &b.foundation, &b.counts, &b.tableau);
-    let after = features_after(b, m);
+    let before = score::measure::compute_features(cells, foundation, counts, tableau);
+    let after = features_after(cells, foundation, counts, tableau, m);
     let way = way_of(m);
     score::scores::signed(
         priority_adds(way, before, after),
         priority_takes(way, before, after),
     )
+}
+
+// 30 and 33 to 40 as one move is refused, or the local priority of a move, on a well formed board.
+pub fn priority_at<'a>(
+    cells: &'a [u8; 4],
+    foundation: &'a [u8; 4],
+    counts: &'a [u8; 8],
+    tableau: &'a [u8; CODES],
+    bytes: &[u8],
+) -> ScoreAnswer
+    requires { ⌜ Sound (laid (now cells) (now foundation) (now counts) (now tableau)) ⌝ }
+    ensures { λ r. ⌜ scoreTold r ≡ priorityBy (shown (laid (now (cells .entry)) (now (foundation .entry)) (now (counts .entry)) (now (tableau .entry)))) (moveAsked (now (bytes .entry))) ⌝ }
+{
+    let Decoded::Is(m) = moves::decode(bytes) else {
+        return ScoreAnswer::Refused(Refusal::OutOfRange);
+    };
+    if let Examined::Refused(why) = play::rule::ruled_at(cells, foundation, counts, tableau, m) {
+        return ScoreAnswer::Refused(why);
+    }
+    ScoreAnswer::Score(local_priority(cells, foundation, counts, tableau, m))
 }
 
 // 12 to 15, 30 and 33 to 40 as one move is refused, or the local priority of a move.
@@ -151,11 +198,5 @@ pub fn priority_of(b: Board, bytes: &[u8]) -> ScoreAnswer
     if let Examined::Refused(why) = inspect(&b.cells, &b.foundation, &b.counts, &b.tableau) {
         return ScoreAnswer::Refused(why);
     }
-    let Decoded::Is(m) = moves::decode(bytes) else {
-        return ScoreAnswer::Refused(Refusal::OutOfRange);
-    };
-    if let Examined::Refused(why) = play::rule::ruled_at(b, m) {
-        return ScoreAnswer::Refused(why);
-    }
-    ScoreAnswer::Score(local_priority(b, m))
+    priority_at(&b.cells, &b.foundation, &b.counts, &b.tableau, bytes)
 }

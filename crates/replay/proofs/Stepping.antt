@@ -41,6 +41,10 @@ module _ {b : Board} {a : Answer Board} where
   pub moves-no : {why : Refusal} → a ≡ refused (numberOf why) → Moves b a (record { said = Refused why; board = b })
   moves-no e = record { said = ap verdictOf (sym e); board = ap (boardOr b) (sym e) }
 
+-- the answer under another name
+pub moves-as : {b : Board} {a d : Answer Board} {r : Moved} → a ≡ d → Moves b a r → Moves b d r
+moves-as {b} e m = record { said = m .said ∙ ap verdictOf e; board = m .board ∙ ap (boardOr b) e }
+
 -- and what that says of the answer
 module _ {b : Board} where
   pub said-yes : (a : Answer Board) {r : Moved} → Moves b a r → r .said ≡ WellFormed → a ≡ given (r .board)

@@ -3,7 +3,7 @@ ghost use mathlib.Core.Path.{_≡_};
 ghost use mathlib.Core.Bool.{true};
 ghost use Prim.Native.Nat.{_%_};
 ghost use lib.ListN.{length};
-ghost use Rattle.board.specs.Record.{shown};
+ghost use Rattle.board.specs.Record.{shown, laid};
 ghost use Rattle.board.specs.Inner.{Sound};
 ghost use Rattle.moves.specs.Move.{sayable};
 ghost use Rattle.moves.specs.Causes.{played};
@@ -11,6 +11,7 @@ ghost use Rattle.replay.specs.Step.{recorded, stepped, moveMade};
 ghost use Rattle.replay.specs.Line.{lineFrom, recordsIn, replayed, isLine};
 ghost use Rattle.replay.specs.Handed.{Moves, Ends};
 use board::Board;
+use board::CODES;
 use board::Examined;
 use board::Refusal;
 use board::verdict::inspect;
@@ -31,38 +32,73 @@ pub struct Replayed {
     pub board: Board,
 }
 
-// 30, 33 to 40, or the board after a move.
-fn make(b: Board, m: Move) -> Moved
-    requires { ⌜ Sound b ⌝ }
+// The same beside a board that lies in four arrays.
+pub struct Stopped {
+    pub said: Examined,
+    pub moves: usize,
+}
+
+// 30, 33 to 40, or the move is made, on a board that lies in four arrays; a refusal leaves them as they were.
+fn make(
+    m: Move,
+    cells: &mut [u8; 4],
+    foundation: &mut [u8; 4],
+    counts: &mut [u8; 8],
+    tableau: &mut [u8; CODES],
+) -> Examined
+    requires { ⌜ Sound (laid (now cells) (now foundation) (now counts) (now tableau)) ⌝ }
     requires { ⌜ sayable m ≡ true ⌝ }
-    ensures { λ r. ⌜ Moves b (recorded (played (shown b) m)) r ⌝ }
-    ensures { λ r. ⌜ Sound (r .board) ⌝ }
+    ensures { λ r. ⌜ Moves (laid (now (cells .entry)) (now (foundation .entry)) (now (counts .entry)) (now (tableau .entry))) (recorded (played (shown (laid (now (cells .entry)) (now (foundation .entry)) (now (counts .entry)) (now (tableau .entry)))) m)) (record { said = r; board = laid (now (cells .exit)) (now (foundation .exit)) (now (counts .exit)) (now (tableau .exit)) }) ⌝ }
+    ensures { λ r. ⌜ Sound (laid (now (cells .exit)) (now (foundation .exit)) (now (counts .exit)) (now (tableau .exit))) ⌝ }
 {
-    if let Examined::Refused(why) = play::rule::ruled_at(b, m) {
-        return Moved {
-            said: Examined::Refused(why),
-            board: b,
-        };
+    if let Examined::Refused(why) = play::rule::ruled_at(cells, foundation, counts, tableau, m) {
+        return Examined::Refused(why);
     }
-    Moved {
-        said: Examined::WellFormed,
-        board: play::apply_at(b, m),
+    play::apply_to(m, cells, foundation, counts, tableau);
+    Examined::WellFormed
+}
+
+// 30, 33 to 40, or the move of a record is made, on a well formed board.
+pub fn apply_record_to(
+    bytes: &[u8],
+    cells: &mut [u8; 4],
+    foundation: &mut [u8; 4],
+    counts: &mut [u8; 8],
+    tableau: &mut [u8; CODES],
+) -> Examined
+    requires { ⌜ Sound (laid (now cells) (now foundation) (now counts) (now tableau)) ⌝ }
+    ensures { λ r. ⌜ Moves (laid (now (cells .entry)) (now (foundation .entry)) (now (counts .entry)) (now (tableau .entry))) (stepped (laid (now (cells .entry)) (now (foundation .entry)) (now (counts .entry)) (now (tableau .entry))) (now (bytes .entry))) (record { said = r; board = laid (now (cells .exit)) (now (foundation .exit)) (now (counts .exit)) (now (tableau .exit)) }) ⌝ }
+    ensures { λ r. ⌜ Sound (laid (now (cells .exit)) (now (foundation .exit)) (now (counts .exit)) (now (tableau .exit))) ⌝ }
+{
+    match moves::decode(bytes) {
+        Decoded::Is(m) => make(m, cells, foundation, counts, tableau),
+        Decoded::Impossible => Examined::Refused(Refusal::OutOfRange),
     }
 }
 
-// 30, 33 to 40, or the board after the move of a record, on a well formed board.
+// The same on a board by value.
 pub fn apply_record_at(b: Board, bytes: &[u8]) -> Moved
     requires { ⌜ Sound b ⌝ }
     ensures { λ r. ⌜ Moves b (stepped b (now (bytes .entry))) r ⌝ }
-    ensures { λ r. ⌜ Sound (r .board) ⌝ }
 {
-    match moves::decode(bytes) {
-        Decoded::Is(m) => make(b, m),
-        Decoded::Impossible => Moved {
-            said: Examined::Refused(Refusal::OutOfRange),
-            board: b,
-        },
-    }
+    let mut cells = b.cells;
+    let mut foundation = b.foundation;
+    let mut counts = b.counts;
+    let mut tableau = b.tableau;
+    let said = apply_record_to(
+        bytes,
+        &mut cells,
+        &mut foundation,
+        &mut counts,
+        &mut tableau,
+    );
+    let board = Board {
+        cells,
+        foundation,
+        counts,
+        tableau,
+    };
+    Moved { said, board }
 }
 
 // 12 to 15, 30, 33 to 40, or the board after the move of a record.
@@ -79,35 +115,64 @@ pub fn apply_record(b: Board, bytes: &[u8]) -> Moved
 }
 
 // The records of a list one after the other, on a well formed board.
-pub fn replay_at(b: Board, bytes: &[u8]) -> Replayed
-    requires { ⌜ Sound b ⌝ }
+pub fn replay_to(
+    bytes: &[u8],
+    cells: &mut [u8; 4],
+    foundation: &mut [u8; 4],
+    counts: &mut [u8; 8],
+    tableau: &mut [u8; CODES],
+) -> Stopped
+    requires { ⌜ Sound (laid (now cells) (now foundation) (now counts) (now tableau)) ⌝ }
     requires { ⌜ length (now bytes) % 5 ≡ 0 ⌝ }
-    ensures { λ r. ⌜ Ends (lineFrom b (recordsIn (now (bytes .entry)))) r ⌝ }
-    ensures { λ r. ⌜ Sound (r .board) ⌝ }
+    ensures { λ r. ⌜ Ends (lineFrom (laid (now (cells .entry)) (now (foundation .entry)) (now (counts .entry)) (now (tableau .entry))) (recordsIn (now (bytes .entry)))) (record { said = r .said; moves = r .moves; board = laid (now (cells .exit)) (now (foundation .exit)) (now (counts .exit)) (now (tableau .exit)) }) ⌝ }
+    ensures { λ r. ⌜ Sound (laid (now (cells .exit)) (now (foundation .exit)) (now (counts .exit)) (now (tableau .exit))) ⌝ }
 {
-    let mut board = b;
     let mut moves = 0;
     let mut at = 0;
     while at < bytes.len() {
         let end = at + 5;
-        let moved = apply_record_at(board, &bytes[at..end]);
-        let said = moved.said;
-        board = moved.board;
+        let said = apply_record_to(&bytes[at..end], cells, foundation, counts, tableau);
         if let Examined::Refused(why) = said {
-            return Replayed {
+            return Stopped {
                 said: Examined::Refused(why),
                 moves,
-                board,
             };
         }
         moves += 1;
         at = end;
     }
-    Replayed {
+    Stopped {
         said: Examined::WellFormed,
         moves,
-        board,
     }
+}
+
+// The same on a board by value.
+pub fn replay_at(b: Board, bytes: &[u8]) -> Replayed
+    requires { ⌜ Sound b ⌝ }
+    requires { ⌜ length (now bytes) % 5 ≡ 0 ⌝ }
+    ensures { λ r. ⌜ Ends (lineFrom b (recordsIn (now (bytes .entry)))) r ⌝ }
+{
+    let mut cells = b.cells;
+    let mut foundation = b.foundation;
+    let mut counts = b.counts;
+    let mut tableau = b.tableau;
+    let stopped = replay_to(
+        bytes,
+        &mut cells,
+        &mut foundation,
+        &mut counts,
+        &mut tableau,
+    );
+    let board = Board {
+        cells,
+        foundation,
+        counts,
+        tableau,
+    };
+    let said = stopped.said;
+    let moves = stopped.moves;
+    Replayed { said, moves, board }
 }
 
 // At most 200 records, and nothing after them.

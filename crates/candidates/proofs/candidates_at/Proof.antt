@@ -6,13 +6,14 @@ use Rattle.candidates.proofs.candidates_at.Statement.{statement}
 use Rattle.candidates.proofs.candidates_at.Tie as tie
 
 compute-features-requires : tie.Need-compute-features-requires
-compute-features-requires c κs = let p6 = c .before .before .before .before .before .before in p6 .pre .0
+compute-features-requires c κs = c .before .pre .0
 
 slice-aggregate-tried-at : tie.Need-slice-aggregate-tried-at
 slice-aggregate-tried-at c = search needs
 
 tried-at-requires : tie.Need-tried-at-requires
-tried-at-requires c κs = (c .before .before .before .before .before .before .before .before .pre .0, (c .before .compute-features .ensures, omega arith))
+tried-at-requires c κs = let s = c .before .before .before in
+    (s .pre .0, (c .before .compute-features .ensures, omega arith))
 
 slice-aggregate-rank-all : tie.Need-slice-aggregate-rank-all
 slice-aggregate-rank-all c = search needs
@@ -21,7 +22,8 @@ slice-aggregate-rank-all-2 : tie.Need-slice-aggregate-rank-all-2
 slice-aggregate-rank-all-2 c = search needs
 
 rank-all-requires : tie.Need-rank-all-requires
-rank-all-requires c κs = (holds-tried (c .before .before .before .before .before .before .before .before .before .before .before .before .pre .0) (c .before .before .before .tried-at .ensures) (omega arith), (c .before .before .before .before .before .compute-features .ensures, (omega (arith, few-tried (c .before .before .before .before .before .before .before .before .before .before .before .before .pre .0) (c .before .before .before .tried-at .ensures)), omega (arith, few-tried (c .before .before .before .before .before .before .before .before .before .before .before .before .pre .0) (c .before .before .before .tried-at .ensures)))))
+rank-all-requires c κs = let at-tried-at = c .before .before .before in let at-compute-features = at-tried-at .before .before in let s = at-compute-features .before .before in
+    (holds-tried (s .pre .0) (at-tried-at .tried-at .ensures) (omega arith), (at-compute-features .compute-features .ensures, (omega (arith, few-tried (s .pre .0) (at-tried-at .tried-at .ensures)), omega (arith, few-tried (s .pre .0) (at-tried-at .tried-at .ensures)))))
 
 slice-aggregate-emit : tie.Need-slice-aggregate-emit
 slice-aggregate-emit c = search needs
@@ -30,13 +32,15 @@ slice-aggregate-emit-2 : tie.Need-slice-aggregate-emit-2
 slice-aggregate-emit-2 c = search needs
 
 emit-requires : tie.Need-emit-requires
-emit-requires c κs = (holds-tried (c .before .before .before .before .before .before .before .before .before .before .before .before .before .before .before .before .before .pre .0) (c .before .before .before .before .before .before .before .before .tried-at .ensures) (omega arith) .records, (names-tried (c .before .before .before .before .before .before .before .before .before .before .before .before .before .before .before .before .before .pre .0) (c .before .before .before .before .before .before .before .before .tried-at .ensures) (omega arith) _ (c .before .before .before .before .rank-all .ensures), omega (arith, few-tried (c .before .before .before .before .before .before .before .before .before .before .before .before .before .before .before .before .before .pre .0) (c .before .before .before .before .before .before .before .before .tried-at .ensures), c .before .before .before .before .before .before .before .before .before .before .before .before .before .before .before .before .before .pre .1)))
+emit-requires c κs = let at-rank-all = c .before .before .before .before in let at-tried-at = at-rank-all .before .before .before .before in let s = at-tried-at .before .before .before .before in
+    (holds-tried (s .pre .0) (at-tried-at .tried-at .ensures) (omega arith) .records, (names-tried (s .pre .0) (at-tried-at .tried-at .ensures) (omega arith) _ (at-rank-all .rank-all .ensures), omega (arith, few-tried (s .pre .0) (at-tried-at .tried-at .ensures), s .pre .1)))
 
 same-length : tie.Need-same-length
 same-length c = search needs
 
 returns : tie.Need-returns
-returns c = adds-candidates (c .before .before .before .before .before .before .before .before .before .before .before .before .before .before .before .before .before .before .before .before .pre .0) (c .before .before .before .before .before .before .before .before .before .before .before .tried-at .ensures) (omega arith) _ (c .before .before .before .before .before .before .before .rank-all .ensures) (c .before .before .emit .ensures)
+returns c = let at-emit = c .before .before in let at-rank-all = at-emit .before .before .before .before .before in let at-tried-at = at-rank-all .before .before .before .before in let s = at-tried-at .before .before .before .before in
+    adds-candidates (s .pre .0) (at-tried-at .tried-at .ensures) (omega arith) _ (at-rank-all .rank-all .ensures) (at-emit .emit .ensures)
 
 pub candidates-at-spec : {M : Type 1} → statement M
 candidates-at-spec =

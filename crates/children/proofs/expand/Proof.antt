@@ -12,13 +12,15 @@ slice-aggregate-candidates-at : tie.Need-slice-aggregate-candidates-at
 slice-aggregate-candidates-at c = search needs
 
 candidates-at-requires : tie.Need-candidates-at-requires
-candidates-at-requires c κs = (c .before .before .before .before .before .pre .0 .sound, omega arith)
+candidates-at-requires c κs = let s = c .before .before .before .before .before .before .before .before .before .before in
+    (s .pre .0 .sound, omega arith)
 
 slice-aggregate-bear-all : tie.Need-slice-aggregate-bear-all
 slice-aggregate-bear-all c = search needs
 
 bear-all-requires : tie.Need-bear-all-requires
-bear-all-requires c κs = let p6 = c .before .before .before .before .before .before in let p12 = p6 .before .before .before .before .before .before in (p12 .pre .0, (p12 .pre .1, (holds-written (p6 .candidates-at .ensures) (p12 .pre .0 .sound) (all-candidates (shown (p12 .args .b)) (shows-fair (p12 .pre .0 .sound))) (omega (arith, most-candidates (shown (p12 .args .b)))) .records, moves-written (p6 .candidates-at .ensures))))
+bear-all-requires c κs = let at-candidates-at = c .before .before .before .before .before .before in let s = at-candidates-at .before .before .before .before .before .before .before .before .before .before .before in
+    (s .pre .0, (s .pre .1, (holds-written (at-candidates-at .candidates-at .ensures) (s .pre .0 .sound) (all-candidates (shown (s .args .t4)) (shows-fair (s .pre .0 .sound))) (omega (arith, most-candidates (shown (s .args .t4)))) .records, moves-written (at-candidates-at .candidates-at .ensures))))
 
 same-length : tie.Need-same-length
 same-length c = search needs
@@ -33,7 +35,8 @@ same-length-4 : tie.Need-same-length-4
 same-length-4 c = search needs
 
 returns : tie.Need-returns
-returns c = let p8 = c .before .before .before .before .before .before .before .before in p8 .bear-all .ensures
+returns c = let at-bear-all = c .before .before .before .before .before .before .before .before in
+    at-bear-all .bear-all .ensures
 
 pub expand-spec : {M : Type 1} → statement M
 expand-spec =

@@ -59,7 +59,7 @@ same-length c = search needs
 
 returns-4 : tie.Need-returns-4
 unfolding replayLeft
-returns-4 c = c .before .before .line .ensures ∙ ap (λ (e : Ending). lineLeft (given e) (c .before .before .before .before .before .before .before .before .before .before .before .before .before .before .before .before .before .args .after .now) (c .before .before .before .before .before .before .before .before .before .before .before .before .before .before .before .before .before .args .played .now)) (ending-is (c .before .before .before .before .before .before .replay-at .ensures .0)) ∙ ap (λ (a : Answer Ending). lineLeft a (c .before .before .before .before .before .before .before .before .before .before .before .before .before .before .before .before .before .args .after .now) (c .before .before .before .before .before .before .before .before .before .before .before .before .before .before .before .before .before .args .played .now)) (by-line (given (lineFrom (c .before .before .before .before .before .before .before .before .before .before .before .before .board-in .result) (recordsIn (c .before .before .before .before .before .before .before .before .before .before .before .before .before .before .before .before .before .args .list .now)))) (c .before .before .before .before .before .before .before .before .before .before .before .before .before .before .before .before .before .args .list .now) (c .before .before .before .before .before .before .before .before .is-line .ensures) (not-false (c .before .before .before .before .before .before .before .before .is-line .result) (c .before .before .before .before .before .before .before .if2 .left)) ∙ sym (after-yes (unless (isLine (c .before .before .before .before .before .before .before .before .before .before .before .before .before .before .before .before .before .args .list .now)) 31 (given (lineFrom (c .before .before .before .before .before .before .before .before .before .before .before .before .board-in .result) (recordsIn (c .before .before .before .before .before .before .before .before .before .before .before .before .before .before .before .before .before .args .list .now))))) (c .before .before .before .before .before .before .before .before .before .before .before .examine .ensures) (c .before .before .before .before .before .before .before .before .before .enum-told .given .1))) ∙ a-board (λ a. lineLeft a (c .before .before .before .before .before .before .before .before .before .before .before .before .before .before .before .before .before .args .after .now) (c .before .before .before .before .before .before .before .before .before .before .before .before .before .before .before .before .before .args .played .now)) (c .before .before .before .before .before .before .before .before .before .before .before .before .before .before .before .before .before .args .board .now) (λ b. after (examined b) (unless (isLine (c .before .before .before .before .before .before .before .before .before .before .before .before .before .before .before .before .before .args .list .now)) 31 (given (lineFrom b (recordsIn (c .before .before .before .before .before .before .before .before .before .before .before .before .before .before .before .before .before .args .list .now)))))) (c .before .before .before .before .before .before .before .before .before .before .before .before .board-in .ensures) (c .before .before .before .before .before .before .before .before .before .before .before .before .before .if1 .left)
+returns-4 c = c .before .before .line .ensures ∙ ap (λ (e : Ending). lineLeft (given e) (c .before .before .before .before .before .before .before .before .before .before .before .before .before .before .before .before .before .args .after .now) (c .before .before .before .before .before .before .before .before .before .before .before .before .before .before .before .before .before .args .played .now)) (ending-is (c .before .before .before .before .before .before .replay-at .ensures)) ∙ ap (λ (a : Answer Ending). lineLeft a (c .before .before .before .before .before .before .before .before .before .before .before .before .before .before .before .before .before .args .after .now) (c .before .before .before .before .before .before .before .before .before .before .before .before .before .before .before .before .before .args .played .now)) (by-line (given (lineFrom (c .before .before .before .before .before .before .before .before .before .before .before .before .board-in .result) (recordsIn (c .before .before .before .before .before .before .before .before .before .before .before .before .before .before .before .before .before .args .list .now)))) (c .before .before .before .before .before .before .before .before .before .before .before .before .before .before .before .before .before .args .list .now) (c .before .before .before .before .before .before .before .before .is-line .ensures) (not-false (c .before .before .before .before .before .before .before .before .is-line .result) (c .before .before .before .before .before .before .before .if2 .left)) ∙ sym (after-yes (unless (isLine (c .before .before .before .before .before .before .before .before .before .before .before .before .before .before .before .before .before .args .list .now)) 31 (given (lineFrom (c .before .before .before .before .before .before .before .before .before .before .before .before .board-in .result) (recordsIn (c .before .before .before .before .before .before .before .before .before .before .before .before .before .before .before .before .before .args .list .now))))) (c .before .before .before .before .before .before .before .before .before .before .before .examine .ensures) (c .before .before .before .before .before .before .before .before .before .enum-told .given .1))) ∙ a-board (λ a. lineLeft a (c .before .before .before .before .before .before .before .before .before .before .before .before .before .before .before .before .before .args .after .now) (c .before .before .before .before .before .before .before .before .before .before .before .before .before .before .before .before .before .args .played .now)) (c .before .before .before .before .before .before .before .before .before .before .before .before .before .before .before .before .before .args .board .now) (λ b. after (examined b) (unless (isLine (c .before .before .before .before .before .before .before .before .before .before .before .before .before .before .before .before .before .args .list .now)) 31 (given (lineFrom b (recordsIn (c .before .before .before .before .before .before .before .before .before .before .before .before .before .before .before .before .before .args .list .now)))))) (c .before .before .before .before .before .before .before .before .before .before .before .before .board-in .ensures) (c .before .before .before .before .before .before .before .before .before .before .before .before .before .if1 .left)
 
 pub corbelnib-replay-spec : {M : Type 1} → statement M
 corbelnib-replay-spec =

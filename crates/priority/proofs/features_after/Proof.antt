@@ -4,14 +4,17 @@ use borrow.Author.Needs.{needs}
 use Rattle.priority.proofs.features_after.Statement.{statement}
 use Rattle.priority.proofs.features_after.Tie as tie
 
-apply-at-requires : tie.Need-apply-at-requires
-apply-at-requires c κs = search needs
+apply-to-requires : tie.Need-apply-to-requires
+apply-to-requires c κs = let s = c .before .before .before .before .before .before .before .before in
+    s .pre
 
 compute-features-requires : tie.Need-compute-features-requires
-compute-features-requires c κs = let p5 = c .before .before .before .before .before in let p6 = p5 .before in sound-then (p6 .pre) (p5 .apply-at .ensures)
+compute-features-requires c κs = let at-apply-to = c .before .before .before .before in let s = at-apply-to .before .before .before .before .before .before .before .before .before in
+    sound-then (s .pre) (at-apply-to .apply-to .ensures)
 
 returns : tie.Need-returns
-returns c = let p6 = c .before .before .before .before .before .before in let p7 = p6 .before in (features-then (p7 .pre) (p6 .apply-at .ensures) (c .compute-features .ensures), bounded-then (p7 .pre) (p6 .apply-at .ensures) (c .compute-features .ensures))
+returns c = let at-apply-to = c .before .before .before .before .before in let s = at-apply-to .before .before .before .before .before .before .before .before .before in
+    (features-then (s .pre) (at-apply-to .apply-to .ensures) (c .compute-features .ensures), bounded-then (s .pre) (at-apply-to .apply-to .ensures) (c .compute-features .ensures))
 
 pub features-after-spec : {M : Type 1} → statement M
-features-after-spec = tie.close (tie.spec apply-at-requires compute-features-requires returns)
+features-after-spec = tie.close (tie.spec apply-to-requires compute-features-requires returns)

@@ -1,6 +1,6 @@
 -- What `key_at` leaves to be shown: both boards' features are bounded.
 use mathlib.Core.Path.{sym, subst}
-use Rattle.board.specs.Record.{shown}
+use Rattle.board.specs.Record.{shown, laid}
 use Rattle.score.specs.Features.{Bounded}
 use Rattle.score.proofs.Bounds.{bounded}
 use Rattle.priority.proofs.After.{key-is}
@@ -15,10 +15,12 @@ way-of-requires : tie.Need-way-of-requires
 way-of-requires c κs = search needs
 
 priority-key-requires : tie.Need-priority-key-requires
-priority-key-requires c κs = let p2 = c .before .before in (subst Bounded (sym (p2 .pre .1)) (bounded (p2 .args .b) (p2 .pre .0 .sound)), c .before .features-after .ensures .1)
+priority-key-requires c κs = let s = c .before .before in let b = laid (s .args .cells .now) (s .args .foundation .now) (s .args .counts .now) (s .args .tableau .now) in
+    (subst Bounded (sym (s .pre .1)) (bounded b (s .pre .0 .sound)), c .before .features-after .ensures .1)
 
 returns : tie.Need-returns
-returns c = let p2 = c .before .before in let p3 = p2 .before in key-is (shown (p3 .args .b)) (p3 .args .m) (c .before .way-of .ensures) (p3 .pre .1) (p2 .features-after .ensures .0) (c .priority-key .ensures)
+returns c = let at-features-after = c .before .before in let s = at-features-after .before in let b = laid (s .args .cells .now) (s .args .foundation .now) (s .args .counts .now) (s .args .tableau .now) in
+    key-is (shown b) (s .args .m) (c .before .way-of .ensures) (s .pre .1) (at-features-after .features-after .ensures .0) (c .priority-key .ensures)
 
 pub key-at-spec : {M : Type 1} → statement M
 key-at-spec =

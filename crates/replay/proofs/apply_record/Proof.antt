@@ -31,7 +31,7 @@ apply-record-at-requires c κs =
 returns-2 : tie.Need-returns-2
 unfolding moveMade
 returns-2 c =
-    subst (λ (a : Answer Board). Moves (c .before .before .before .before .before .before .before .before .before .before .args .t1) a (c .apply-record-at .result)) (sym (after-yes _ (c .before .before .before .inspect .ensures) (c .before .enum-told .given .1))) (c .apply-record-at .ensures .0)
+    subst (λ (a : Answer Board). Moves (c .before .before .before .before .before .before .before .before .before .before .args .t1) a (c .apply-record-at .result)) (sym (after-yes _ (c .before .before .before .inspect .ensures) (c .before .enum-told .given .1))) (c .apply-record-at .ensures)
 
 pub apply-record-spec : {M : Type 1} → statement M
 apply-record-spec =

@@ -40,7 +40,7 @@ returns-2 : tie.Need-returns-2
 returns-2 c =
     let start = c .before .before .before .before .before .before .before .before .before .before .before .before .args in
     let line = sym (c .before .before .is-line .ensures) ∙ c .before .if1 .taken in
-    subst (λ (e : Ending). Ends e (c .replay-at .result)) (sym (good-line (start .t1) (start .bytes .now) (c .before .before .before .before .before .inspect .ensures) (c .before .before .before .enum-told .given .1) line)) (c .replay-at .ensures .0)
+    subst (λ (e : Ending). Ends e (c .replay-at .result)) (sym (good-line (start .t1) (start .bytes .now) (c .before .before .before .before .before .inspect .ensures) (c .before .before .before .enum-told .given .1) line)) (c .replay-at .ensures)
 
 returns-3 : tie.Need-returns-3
 returns-3 c =

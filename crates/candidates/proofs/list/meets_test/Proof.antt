@@ -1,5 +1,5 @@
 -- What `meets_test` leaves to be shown: what each test asks.
-use Rattle.board.specs.Record.{shown}
+use Rattle.board.specs.Record.{shown, laid}
 use Rattle.candidates.proofs.Worth.{meets-safe, meets-unsafe, meets-worth}
 use borrow.Author.Needs.{needs}
 use Rattle.candidates.proofs.list.meets_test.Statement.{statement}
@@ -27,13 +27,16 @@ is-better-requires : tie.Need-is-better-requires
 is-better-requires c κs = search needs
 
 returns : tie.Need-returns
-returns c = let p3 = c .before .before .before in meets-safe (shown (p3 .args .b)) (p3 .args .m) (c .before .enum-told .given .1) (c .is-safe .ensures)
+returns c = let s = c .before .before .before in let b = laid (s .args .cells .now) (s .args .foundation .now) (s .args .counts .now) (s .args .tableau .now) in
+    meets-safe (shown b) (s .args .m) (c .before .enum-told .given .1) (c .is-safe .ensures)
 
 returns-2 : tie.Need-returns-2
-returns-2 c = let p3 = c .before .before .before in meets-unsafe (shown (p3 .args .b)) (p3 .args .m) (c .before .enum-told2 .given .1) (c .is-safe2 .ensures)
+returns-2 c = let s = c .before .before .before in let b = laid (s .args .cells .now) (s .args .foundation .now) (s .args .counts .now) (s .args .tableau .now) in
+    meets-unsafe (shown b) (s .args .m) (c .before .enum-told2 .given .1) (c .is-safe2 .ensures)
 
 returns-3 : tie.Need-returns-3
-returns-3 c = let p2 = c .before .before in let p4 = p2 .before .before in meets-worth (shown (p4 .args .b)) (p4 .args .m) (p2 .enum-told3 .given .1) (p4 .pre .1) (c .before .features-after .ensures .0) (c .is-better .ensures)
+returns-3 c = let at-enum-told3 = c .before .before in let s = at-enum-told3 .before .before in let b = laid (s .args .cells .now) (s .args .foundation .now) (s .args .counts .now) (s .args .tableau .now) in
+    meets-worth (shown b) (s .args .m) (at-enum-told3 .enum-told3 .given .1) (s .pre .1) (c .before .features-after .ensures .0) (c .is-better .ensures)
 
 pub meets-test-spec : {M : Type 1} → statement M
 meets-test-spec =
