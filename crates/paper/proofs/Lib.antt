@@ -1,3 +1,5 @@
 -- Laws for the crates above.
+pub mod Signs
+pub mod Forming
 pub mod Opened
 pub mod Examples

@@ -1,7 +1,7 @@
 -- A move as players write it: two signs, and for fewer cards than the most `v` and a digit. A line has one space between two moves.
 use mathlib.Core.Bool.{cond}
 use mathlib.Core.List.{List, [], _∷_, _++_}
-use Prim.Native.Nat.{ℕ, _+_}
+use Prim.Native.Nat.{ℕ, _+_, _<_}
 use lib.Dec.{ltb}
 use Rattle.paper.specs.declared.Jot.{Jot}
 use Rattle.paper.specs.declared.Jot.the-variants.{Between, Counted, ToCell, ToHome, FromCell, CellHome}
@@ -39,3 +39,18 @@ unfoldable pub lineText : List Jot → List ℕ
 lineText [] = []
 lineText (j ∷ []) = jotText j
 lineText (j ∷ k ∷ js) = jotText j ++ (space ∷ lineText (k ∷ js))
+
+-- ---- what the laws speak of
+
+-- its columns, its cell and its digit are there
+abbrev pub WellMade : Jot → Type 0
+WellMade (Between i j) = (i < 8) × (j < 8)
+WellMade (Counted i j n) = (i < 8) × ((j < 8) × (n < 16))
+WellMade (ToCell i c) = (i < 8) × (c < 4)
+WellMade (ToHome i) = i < 8
+WellMade (FromCell c j) = (c < 4) × (j < 8)
+WellMade (CellHome c) = c < 4
+
+abbrev pub AllWell : List Jot → Type 0
+AllWell [] = Unit {0}
+AllWell (j ∷ js) = WellMade j × AllWell js
