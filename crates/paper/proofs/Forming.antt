@@ -122,7 +122,7 @@ Says d x (On e) = soFar e ≡ soFar d ++ (x ∷ [])
 Says d x (Ends j) = (x ≡ space) × (soFar d ≡ jotText j)
 Says d x Wrong = Unit {0}
 
-by-test : (P : Step → Type 0) (b : Bool) (s r : Step) → (b ≡ true → P s) → (b ≡ false → P r) → P (cond b s r)
+pub by-test : (P : Step → Type 0) (b : Bool) (s r : Step) → (b ≡ true → P s) → (b ≡ false → P r) → P (cond b s r)
 by-test P true s r yes-then no-then = yes-then refl
 by-test P false s r yes-then no-then = no-then refl
 
