@@ -2,5 +2,6 @@
 pub mod Signs
 pub mod Forming
 pub mod Stopping
+pub mod Meaning
 pub mod Opened
 pub mod Examples
