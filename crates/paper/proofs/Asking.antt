@@ -2,7 +2,7 @@
 use mathlib.Core.Path.{_≡_, refl, sym, ap, ap₂, _∙_, subst}
 use mathlib.Core.Bool.{Bool, true, false, cond}
 use mathlib.Core.List.{List, [], _∷_, _++_}
-use Prim.Native.Nat.{ℕ, zero, suc, _+_, _*_, _/_, _%_, _≤_}
+use Prim.Native.Nat.{ℕ, zero, suc, _+_, _*_, _/_, _≤_}
 use native.Mathlib.Omega.{arith}
 use borrow.Author.Tests.{le-leb, leb-true, eq-eqb, eqb-true}
 use lib.Dec.{eqb, leb}
@@ -11,7 +11,7 @@ use lib.Seq.{getD-take, getD-drop}
 use Rattle.base.specs.Words.{concat}
 use Rattle.base.specs.Answer.{Answer, given, refused, unless}
 use Rattle.base.proofs.Answers.{given-by}
-use Rattle.base.proofs.Words.{first, second}
+use Rattle.base.proofs.Words.{first}
 use Rattle.board.specs.Table.{Table}
 use Rattle.board.specs.Verdict.{Verdict, fine, after}
 use Rattle.board.specs.Record.{examined, shown, boardOf}
@@ -19,8 +19,7 @@ use Rattle.board.specs.Inner.{Sound, Sized}
 use Rattle.board.specs.declared.Board.{Board}
 use Rattle.board.proofs.Soundness.{sound, sound-fine}
 use Rattle.board.proofs.Fair.{shows-fair}
-use Rattle.moves.specs.Move.{sayable}
-use Rattle.moves.specs.Record.{possible, moveOf, moveAsked, recordOf}
+use Rattle.moves.specs.Record.{possible, moveOf, moveAsked}
 use Rattle.moves.specs.Play.{afterMove, allowed}
 use Rattle.moves.specs.Causes.{ruling, played}
 use Rattle.moves.specs.Written.{listRoom, bytesOf}
@@ -29,16 +28,16 @@ use Rattle.moves.proofs.Saying.{record-of-move, said-of-record, move-of-record}
 use Rattle.moves.proofs.Ruling.{fine-allowed}
 use Rattle.moves.proofs.Writing.{bytes-long}
 use Rattle.replay.specs.Step.{recorded, playedOn, stepped}
-use Rattle.replay.specs.Line.{Ending, goOn, lineFrom, recordsIn, isLine}
+use Rattle.replay.specs.Line.{goOn, lineFrom, recordsIn, isLine}
 use Rattle.replay.specs.Played.{Legal, recordsOf}
 use Rattle.replay.proofs.Lining.{records-none, records-first}
 use Rattle.replay.proofs.Keeping.{Bytes}
 use Rattle.replay.proofs.Replaying.{a-line, line-five}
 use Rattle.replay.proofs.Stepping.{sound-after, shown-after}
 use Rattle.replay.proofs.Legal.{records-written, line-legal}
-use Rattle.paper.specs.Lines.{Outcome, gives, refuses, refusesAt, checked, mostMoves, lineRead, textOf, writableFirst, Writable}
+use Rattle.paper.specs.Lines.{Outcome, gives, checked, mostMoves, lineRead, textOf, writableFirst, Writable}
 use Rattle.paper.specs.Meant.{writable}
-use Rattle.paper.specs.Asked.{readAsked, textRoom, movesOf, movesIn, checkedAt, playedThrough, writtenThrough, writeAsked}
+use Rattle.paper.specs.Asked.{readAsked, textRoom, movesOf, movesIn, checkedAt, writeAsked}
 use Rattle.paper.proofs.Reading.{read-back, read-texted}
 
 -- ---- an answer that is given passed its tests

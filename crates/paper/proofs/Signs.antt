@@ -1,5 +1,5 @@
 -- What each sign does where something is due.
-use mathlib.Core.Path.{_≡_, refl, ap, _∙_}
+use mathlib.Core.Path.{_≡_, refl, ap}
 use mathlib.Core.Bool.{Bool, true, false, cond, _||_}
 use Prim.Native.Nat.{ℕ, _+_, _-_, _<_, _≤_}
 use native.Mathlib.Omega.{arith}
@@ -10,9 +10,8 @@ use Rattle.paper.specs.Jot.{columnSign, cellSign, homeSign, countSign, d
 use Rattle.paper.specs.Form.{within, isDigit, digitSaid, stepFrom}
 use Rattle.paper.specs.declared.Jot.{Jot}
 use Rattle.paper.specs.declared.Jot.the-variants.{Between, Counted, ToCell, ToHome, FromCell, CellHome}
-use Rattle.paper.specs.declared.Due.{Due}
 use Rattle.paper.specs.declared.Due.the-variants.{Source, OfColumn, OfCell, Pair, Digit, Whole}
-use Rattle.paper.specs.declared.Step.the-variants.{On, Ends, Wrong}
+use Rattle.paper.specs.declared.Step.the-variants.{On, Ends}
 
 -- ---- a sign in a range
 
