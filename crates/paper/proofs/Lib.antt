@@ -1,0 +1,9 @@
+-- Laws for the crates above.
+pub mod Signs
+pub mod Forming
+pub mod Stopping
+pub mod Meaning
+pub mod Reading
+pub mod Asking
+pub mod Opened
+pub mod Examples
