@@ -1,0 +1,7 @@
+-- Laws for the crates above.
+pub mod Signs
+pub mod Forming
+pub mod Stopping
+pub mod Meaning
+pub mod Opened
+pub mod Examples

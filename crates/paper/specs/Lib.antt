@@ -1,0 +1,6 @@
+-- Read these in this order.
+pub mod Jot
+pub mod Form
+pub mod Meant
+pub mod Lines
+pub mod Asked
