@@ -1,0 +1,113 @@
+-- What a written move means on a record: the most that go into an empty column, the count that fits an occupied one, the card there.
+use mathlib.Core.Path.{_≡_, refl, sym, ap, ap₂, _∙_, subst}
+use mathlib.Core.Bool.{Bool, true, false, cond}
+use mathlib.Core.List.{List}
+use Prim.Native.Nat.{ℕ, zero, suc, min, _+_, _-_, _*_, _<_, _≤_}
+use native.Mathlib.Omega.{arith}
+use borrow.Author.Tests.{eq-eqb, ne-eqb, le-leb, lt-leb, lt-ltb, le-ltb}
+use lib.Dec.{leb, ltb}
+use lib.ListN.{length, getD}
+use Rattle.base.specs.Words.{listed}
+use Rattle.base.specs.Answer.{Answer, given, refused, unless}
+use Rattle.base.proofs.Words.{both, first-fails, second-fails}
+use Rattle.card.specs.Card.{isCard, cardOf}
+use Rattle.card.specs.declared.Card.{Card}
+use Rattle.board.specs.Table.{Table}
+use Rattle.board.specs.Record.{columnAt, shown, room}
+use Rattle.board.specs.Inner.{GoodColumns, Sound}
+use Rattle.board.specs.declared.Board.{Board}
+use Rattle.board.proofs.Soundness.{column-length, column-code}
+use Rattle.questions.proofs.Asking.{shown-column, shown-columns, shown-cells}
+use Rattle.runs.specs.Run.{runLength}
+use Rattle.rules.specs.Fit.{fitsOn}
+use Rattle.rules.specs.Limit.{mostMoved}
+use Rattle.rules.proofs.Laying.{run-at-most}
+use Rattle.moves.specs.declared.Place.the-variants.{Column as column}
+use Rattle.moves.specs.Play.{there, lastOf}
+use Rattle.moves.specs.declared.Move.{Move}
+use Rattle.moves.specs.declared.Move.the-variants.{TableauToTableau}
+use Rattle.moves.proofs.Allowing.{last-first}
+use Rattle.play.proofs.Playing.{count-there}
+use Rattle.generate.specs.Found.{offered}
+use Rattle.generate.specs.declared.Way.the-variants.{ColumnToColumn}
+use Rattle.paper.specs.Meant.{vacant, mostInto, fitFrom, fittingIn, fitting, countGoes, sense}
+use Rattle.paper.specs.declared.Jot.the-variants.{Between, Counted}
+
+-- ---- a card of a column
+
+module _ {counts tableau : List ℕ} (g : GoodColumns counts tableau) (i n w : ℕ) (h : i < 8) (one : 1 ≤ n) (most : n ≤ getD counts i 0)
+    (e : w ≡ getD counts i 0) where
+  pub deepest-is : getD tableau (i * room + (w - n)) 0 ≡ getD (lastOf n (columnAt counts tableau i)) 0 0
+  deepest-is =
+      let l = column-length g i h in
+      sym
+      (last-first n (columnAt counts tableau i)
+      ∙ ap (λ (k : ℕ). getD (columnAt counts tableau i) k 0) (let q : length (columnAt counts tableau i) - n ≡ w - n = omega arith in q)
+      ∙ column-code counts tableau i (w - n) (omega arith))
+
+  pub deepest-card : isCard (getD tableau (i * room + (w - n)) 0) ≡ true
+  deepest-card = g .codes i (w - n) h (omega arith)
+
+-- ---- two columns of a record
+
+module _ {b : Board} (s : Sound b) (i j : ℕ) (hi : i < 8) where
+  pub most-is : {u v : ℕ} → u ≡ mostMoved (b .cells) (listed 8 (columnAt (b .counts) (b .tableau))) j → v ≡ runLength (columnAt (b .counts) (b .tableau) i)
+      → min u v ≡ mostInto (shown b) i j
+  unfolding mostInto
+  most-is p q =
+      ap₂ min
+      (p ∙ ap₂ (λ (l : List ℕ) (m : List (List ℕ)). mostMoved l m j) (shown-cells b) (shown-columns b))
+      (q ∙ ap runLength (shown-column b i hi))
+
+  -- no more than lie there
+  pub most-there : mostInto (shown b) i j ≤ getD (b .counts) i 0
+  unfolding mostInto
+  most-there =
+      let r = run-at-most (there (shown b) (column i)) in
+      let l = count-there b (s .inColumns) i hi in
+      omega arith
+
+  pub fit-is : j < 8 → (n : ℕ) {x : ℕ} → x ≡ getD (lastOf n (columnAt (b .counts) (b .tableau) i)) 0 0 → {r : Bool} → r ≡ fitsOn (columnAt (b .counts) (b .tableau) j) x
+      → r ≡ fitFrom (shown b) i j n
+  unfolding fitFrom
+  fit-is hj n e f =
+      f ∙ ap₂ (λ (l : List ℕ) (y : ℕ). fitsOn l y) (shown-column b j hj)
+      (e ∙ ap (λ (l : List ℕ). getD (lastOf n l) 0 0) (shown-column b i hi))
+
+  pub run-is : (n : ℕ) {x : ℕ} → x ≡ getD (lastOf n (columnAt (b .counts) (b .tableau) i)) 0 0 → {c : Card} → c ≡ cardOf x
+      → TableauToTableau i j n c ≡ offered (shown b) ColumnToColumn i j n
+  unfolding offered
+  run-is n e f =
+      ap (TableauToTableau i j n) (f ∙ ap cardOf (e ∙ ap (λ (l : List ℕ). getD (lastOf n l) 0 0) (shown-column b i hi)))
+
+-- ---- the count that fits, from the longest down
+
+-- no longer one fits
+pub record Fits (b : Board) (i j n : ℕ) : Type 0 where
+  pub within : n ≤ getD (b .counts) i 0
+  pub left : fittingIn (shown b) i j n ≡ fitting (shown b) i j
+
+module _ {b : Board} (s : Sound b) (i j : ℕ) (hi : i < 8) where
+  pub fits-start : {n : ℕ} → n ≡ runLength (columnAt (b .counts) (b .tableau) i) → Fits b i j n
+  unfolding fitting
+  fits-start e =
+      let r = run-at-most (columnAt (b .counts) (b .tableau) i) in
+      let l = column-length (s .inColumns) i hi in
+      record { within = omega arith; left = ap (fittingIn (shown b) i j) (e ∙ ap runLength (shown-column b i hi)) }
+
+module _ {b : Board} {i j n : ℕ} (f : Fits b i j n) (some : 0 < n) where
+  first : fitting (shown b) i j ≡ cond (fitFrom (shown b) i j n) n (fittingIn (shown b) i j (n - 1))
+  unfolding fittingIn
+  first =
+      sym (f .left) ∙ ap (fittingIn (shown b) i j) (let q : n ≡ suc (n - 1) = omega arith in q)
+      ∙ ap (λ (k : ℕ). cond (fitFrom (shown b) i j k) k (fittingIn (shown b) i j (n - 1))) (let q : suc (n - 1) ≡ n = omega arith in q)
+
+  pub fits-stop : fitFrom (shown b) i j n ≡ true → n ≡ fitting (shown b) i j
+  fits-stop e = sym (first ∙ rw e)
+
+  pub fits-turn : fitFrom (shown b) i j n ≡ false → Fits b i j (n - 1)
+  fits-turn e = let w = f .within in record { within = omega arith; left = sym (first ∙ rw e) }
+
+pub fits-end : {b : Board} {i j n : ℕ} → Fits b i j n → n ≤ 0 → 0 ≡ fitting (shown b) i j
+unfolding fittingIn
+fits-end {b} {i} {j} {n} f h = ap (fittingIn (shown b) i j) (let q : 0 ≡ n = omega arith in q) ∙ f .left
