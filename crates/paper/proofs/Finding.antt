@@ -111,3 +111,57 @@ module _ {b : Board} {i j n : ℕ} (f : Fits b i j n) (some : 0 < n) where
 pub fits-end : {b : Board} {i j n : ℕ} → Fits b i j n → n ≤ 0 → 0 ≡ fitting (shown b) i j
 unfolding fittingIn
 fits-end {b} {i} {j} {n} f h = ap (fittingIn (shown b) i j) (let q : 0 ≡ n = omega arith in q) ∙ f .left
+
+-- ---- a move between two columns
+
+module _ {b : Board} (s : Sound b) (j : ℕ) (hj : j < 8) where
+  pub vacant-yes : getD (b .counts) j 0 ≡ 0 → vacant (shown b) j ≡ true
+  unfolding vacant
+  vacant-yes e = eq-eqb (length (there (shown b) (column j))) 0 (count-there b (s .inColumns) j hj ∙ e)
+
+  pub vacant-no : (getD (b .counts) j 0 ≡ 0 → ⊥) → vacant (shown b) j ≡ false
+  unfolding vacant
+  vacant-no d = ne-eqb (length (there (shown b) (column j))) 0 (λ e. d (sym (count-there b (s .inColumns) j hj) ∙ e))
+
+module _ (t : Table) (i j : ℕ) where
+  pub means-most : vacant t j ≡ true → {n : ℕ} → n ≡ mostInto t i j → {m : Move} → m ≡ offered t ColumnToColumn i j n → given m ≡ sense t (Between i j)
+  means-most v q e = sym (rw v (ap (λ (k : Move). given k) (sym (e ∙ ap (offered t ColumnToColumn i j) q))))
+
+  pub means-fit : vacant t j ≡ false → {n : ℕ} → n ≡ fitting t i j → (n ≡ 0 → ⊥) → {m : Move} → m ≡ offered t ColumnToColumn i j n → given m ≡ sense t (Between i j)
+  means-fit v {n} q d e =
+      sym (rw (v, le-leb 1 (fitting t i j) (some n d q)) (ap (λ (k : Move). given k) (sym (e ∙ ap (offered t ColumnToColumn i j) q))))
+    where
+      some : (k : ℕ) → (k ≡ 0 → ⊥) → k ≡ fitting t i j → 1 ≤ fitting t i j
+      some zero d q = absurd (d refl)
+      some (suc k) d q = omega arith
+
+  pub fits-none : vacant t j ≡ false → {n : ℕ} → n ≡ fitting t i j → n ≡ 0 → refused 38 ≡ sense t (Between i j)
+  fits-none v q z = sym (rw (v, lt-leb 1 (fitting t i j) (omega arith)))
+
+  module _ (n : ℕ) where
+    pub count-occupied : vacant t j ≡ false → refused 30 ≡ sense t (Counted i j n)
+    unfolding countGoes
+    count-occupied v = sym (rw v)
+
+    pub count-none : n ≡ 0 → refused 30 ≡ sense t (Counted i j n)
+    unfolding countGoes
+    count-none z =
+        sym
+        (ap (λ (g : Bool). unless g 30 (given (offered t ColumnToColumn i j n)))
+        (second-fails (vacant t j) _ (first-fails (leb 1 n) (ltb n (mostInto t i j)) (lt-leb 1 n (omega arith)))))
+
+    module _ {most : ℕ} (q : most ≡ mostInto t i j) where
+      pub count-over : most ≤ n → refused 30 ≡ sense t (Counted i j n)
+      unfolding countGoes
+      count-over h =
+          sym
+          (ap (λ (g : Bool). unless g 30 (given (offered t ColumnToColumn i j n)))
+          (second-fails (vacant t j) _ (second-fails (leb 1 n) (ltb n (mostInto t i j)) (le-ltb n (mostInto t i j) (omega arith)))))
+
+      pub count-means : vacant t j ≡ true → 1 ≤ n → n < most → {m : Move} → m ≡ offered t ColumnToColumn i j n → given m ≡ sense t (Counted i j n)
+      unfolding countGoes
+      count-means v one h e =
+          sym
+          (ap (λ (g : Bool). unless g 30 (given (offered t ColumnToColumn i j n)))
+          (both v (both (le-leb 1 n one) (lt-ltb n (mostInto t i j) (omega arith))))
+          ∙ ap (λ (k : Move). given k) (sym e))

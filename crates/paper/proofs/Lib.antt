@@ -4,5 +4,6 @@ pub mod Forming
 pub mod Stopping
 pub mod Meaning
 pub mod Finding
+pub mod Reading
 pub mod Opened
 pub mod Examples

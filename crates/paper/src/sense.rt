@@ -2,8 +2,7 @@
 ghost use mathlib.Core.Path.{_≡_};
 ghost use mathlib.Core.Bool.{true};
 ghost use Prim.Native.Nat.{_<_, _≤_};
-ghost use lib.Dec.{leb};
-ghost use lib.ListN.{length, getD};
+ghost use lib.ListN.{getD};
 ghost use Rattle.card.specs.Card.{isCard};
 ghost use Rattle.board.specs.Record.{shown, laid, columnAt};
 ghost use Rattle.board.specs.Inner.{GoodColumns, Sound};
@@ -14,12 +13,16 @@ ghost use Rattle.paper.specs.Jot.{WellMade};
 ghost use Rattle.paper.specs.Meant.{mostInto, fitting, origin, leaves, sense, meant};
 ghost use Rattle.paper.specs.Inner.{moveAnswered};
 ghost use Rattle.paper.specs.declared.Jot.the-variants.{Between, Counted};
+ghost use Rattle.questions.specs.Questions.{topOf};
+ghost use Rattle.questions.specs.declared.Top.the-variants.{Is};
 use crate::Jot;
 use crate::MoveAnswer;
 use board::CODES;
 use board::ROOM;
 use board::Refusal;
+use card::Card;
 use moves::Move;
+use questions::Top;
 
 // The deepest of the last n cards of a column.
 fn deepest<'a>(counts: &'a [u8; 8], tableau: &'a [u8; CODES], i: usize, n: usize) -> u8
@@ -161,4 +164,118 @@ fn counted_at<'a>(
         return MoveAnswer::Refused(Refusal::OutOfRange);
     }
     MoveAnswer::Is(run_move(cells, foundation, counts, tableau, i, j, n))
+}
+
+// A move that does not go from a column to itself.
+fn goes_away(jot: Jot) -> bool
+    ensures { λ r. ⌜ r ≡ leaves jot ⌝ }
+{
+    match jot {
+        Jot::Between {
+            source,
+            destination,
+        } => source != destination,
+        Jot::Counted {
+            source,
+            destination,
+            ..
+        } => source != destination,
+        Jot::ToCell { .. } => true,
+        Jot::ToHome { .. } => true,
+        Jot::FromCell { .. } => true,
+        Jot::CellHome { .. } => true,
+    }
+}
+
+// The last card where a move takes from.
+fn top_there<'a>(
+    cells: &'a [u8; 4],
+    foundation: &'a [u8; 4],
+    counts: &'a [u8; 8],
+    tableau: &'a [u8; CODES],
+    jot: Jot,
+) -> Top
+    requires { ⌜ Sound (laid (now cells) (now foundation) (now counts) (now tableau)) ⌝ }
+    requires { ⌜ WellMade jot ⌝ }
+    ensures { λ r. ⌜ r ≡ topOf (there (shown (laid (now (cells .entry)) (now (foundation .entry)) (now (counts .entry)) (now (tableau .entry)))) (origin jot)) ⌝ }
+{
+    match jot {
+        Jot::Between { source, .. } => questions::top_at(counts, tableau, source),
+        Jot::Counted { source, .. } => questions::top_at(counts, tableau, source),
+        Jot::ToCell { source, .. } => questions::top_at(counts, tableau, source),
+        Jot::ToHome { source } => questions::top_at(counts, tableau, source),
+        Jot::FromCell { cell, .. } => questions::cell_at(cells, cell),
+        Jot::CellHome { cell } => questions::cell_at(cells, cell),
+    }
+}
+
+// The move itself; the card is the last where it takes from.
+fn sense_at<'a>(
+    cells: &'a [u8; 4],
+    foundation: &'a [u8; 4],
+    counts: &'a [u8; 8],
+    tableau: &'a [u8; CODES],
+    jot: Jot,
+    card: Card,
+) -> MoveAnswer
+    requires { ⌜ Sound (laid (now cells) (now foundation) (now counts) (now tableau)) ⌝ }
+    requires { ⌜ WellMade jot ⌝ }
+    requires { ⌜ topOf (there (shown (laid (now cells) (now foundation) (now counts) (now tableau))) (origin jot)) ≡ Is card ⌝ }
+    ensures { λ r. ⌜ moveAnswered r ≡ sense (shown (laid (now (cells .entry)) (now (foundation .entry)) (now (counts .entry)) (now (tableau .entry)))) jot ⌝ }
+{
+    match jot {
+        Jot::Between {
+            source,
+            destination,
+        } => between_at(cells, foundation, counts, tableau, source, destination),
+        Jot::Counted {
+            source,
+            destination,
+            count,
+        } => counted_at(
+            cells,
+            foundation,
+            counts,
+            tableau,
+            source,
+            destination,
+            count,
+        ),
+        Jot::ToCell { source, cell } => MoveAnswer::Is(Move::TableauToFreeCell {
+            source,
+            cell_index: cell,
+            card,
+        }),
+        Jot::ToHome { source } => MoveAnswer::Is(Move::TableauToFoundation { source, card }),
+        Jot::FromCell { cell, destination } => MoveAnswer::Is(Move::FreeCellToTableau {
+            cell_index: cell,
+            destination,
+            card,
+        }),
+        Jot::CellHome { cell } => MoveAnswer::Is(Move::FreeCellToFoundation {
+            cell_index: cell,
+            card,
+        }),
+    }
+}
+
+// The move that is meant: 30 for a column to itself, 33 for a source with no card, then its own 30 or 38.
+pub fn meant_at<'a>(
+    cells: &'a [u8; 4],
+    foundation: &'a [u8; 4],
+    counts: &'a [u8; 8],
+    tableau: &'a [u8; CODES],
+    jot: Jot,
+) -> MoveAnswer
+    requires { ⌜ Sound (laid (now cells) (now foundation) (now counts) (now tableau)) ⌝ }
+    requires { ⌜ WellMade jot ⌝ }
+    ensures { λ r. ⌜ moveAnswered r ≡ meant (shown (laid (now (cells .entry)) (now (foundation .entry)) (now (counts .entry)) (now (tableau .entry)))) jot ⌝ }
+{
+    if !goes_away(jot) {
+        return MoveAnswer::Refused(Refusal::OutOfRange);
+    }
+    let Top::Is(card) = top_there(cells, foundation, counts, tableau, jot) else {
+        return MoveAnswer::Refused(Refusal::SourceEmpty);
+    };
+    sense_at(cells, foundation, counts, tableau, jot, card)
 }
