@@ -17,21 +17,26 @@ use Rattle.board.specs.Record.{columnAt, shown, room}
 use Rattle.board.specs.Inner.{GoodColumns, Sound}
 use Rattle.board.specs.declared.Board.{Board}
 use Rattle.board.proofs.Soundness.{column-length, column-code}
+use Rattle.questions.specs.Questions.{topOf}
+use Rattle.questions.specs.declared.Top.the-variants.{Is, Empty}
 use Rattle.questions.proofs.Asking.{shown-column, shown-columns, shown-cells}
 use Rattle.runs.specs.Run.{runLength}
 use Rattle.rules.specs.Fit.{fitsOn}
 use Rattle.rules.specs.Limit.{mostMoved}
 use Rattle.rules.proofs.Laying.{run-at-most}
-use Rattle.moves.specs.declared.Place.the-variants.{Column as column}
+use Rattle.moves.specs.declared.Place.the-variants.{Column as column, Cell as cell}
 use Rattle.moves.specs.Play.{there, lastOf}
 use Rattle.moves.specs.declared.Move.{Move}
-use Rattle.moves.specs.declared.Move.the-variants.{TableauToTableau}
+use Rattle.moves.specs.declared.Move.the-variants.{TableauToTableau, TableauToFoundation, TableauToFreeCell, FreeCellToTableau, FreeCellToFoundation}
 use Rattle.moves.proofs.Allowing.{last-first}
 use Rattle.play.proofs.Playing.{count-there}
+use Rattle.play.proofs.Tops.{top-empty, some-there, top-card}
 use Rattle.generate.specs.Found.{offered}
-use Rattle.generate.specs.declared.Way.the-variants.{ColumnToColumn}
-use Rattle.paper.specs.Meant.{vacant, mostInto, fitFrom, fittingIn, fitting, countGoes, sense}
-use Rattle.paper.specs.declared.Jot.the-variants.{Between, Counted}
+use Rattle.generate.specs.declared.Way.the-variants.{ColumnToColumn, ColumnToHome, ColumnToCell, CellToColumn, CellToHome}
+use Rattle.paper.specs.Meant.{vacant, mostInto, fitFrom, fittingIn, fitting, origin, leaves, countGoes, sense, meant}
+use Rattle.paper.specs.declared.Jot.{Jot}
+use Rattle.paper.specs.declared.Jot.the-variants.{Between, Counted, ToCell, ToHome, FromCell, CellHome}
+use Rattle.paper.proofs.Meaning.{meant-sense, most-run, fitting-run}
 
 -- ---- a card of a column
 
@@ -61,8 +66,15 @@ module _ {b : Board} (s : Sound b) (i j : ℕ) (hi : i < 8) where
 
   -- no more than lie there
   pub most-there : mostInto (shown b) i j ≤ getD (b .counts) i 0
-  unfolding mostInto
   most-there =
+      let m = most-run (shown b) i j in
+      let r = run-at-most (there (shown b) (column i)) in
+      let l = count-there b (s .inColumns) i hi in
+      omega arith
+
+  pub fitting-there : fitting (shown b) i j ≤ getD (b .counts) i 0
+  fitting-there =
+      let f = fitting-run (shown b) i j in
       let r = run-at-most (there (shown b) (column i)) in
       let l = count-there b (s .inColumns) i hi in
       omega arith
@@ -165,3 +177,53 @@ module _ (t : Table) (i j : ℕ) where
           (ap (λ (g : Bool). unless g 30 (given (offered t ColumnToColumn i j n)))
           (both v (both (le-leb 1 n one) (lt-ltb n (mostInto t i j) (omega arith))))
           ∙ ap (λ (k : Move). given k) (sym e))
+
+-- ---- a move of one card
+
+-- a card lies on a column that shows one
+pub some-lies : {b : Board} → Sound b → (i : ℕ) → i < 8 → (c : Card) → topOf (there (shown b) (column i)) ≡ Is c → 1 ≤ getD (b .counts) i 0
+some-lies {b} s i h c top =
+    let l = count-there b (s .inColumns) i h in
+    let k = some-there (there (shown b) (column i)) c top in
+    omega arith
+
+module _ (t : Table) (card : Card) {j : Jot} (top : topOf (there t (origin j)) ≡ Is card) where
+  pub top-of : {k : Jot} → j ≡ k → topOf (there t (origin k)) ≡ Is card
+  top-of e = subst (λ (k : Jot). topOf (there t (origin k)) ≡ Is card) e top
+
+  module _ {i k : ℕ} where
+    pub means-to-cell : j ≡ ToCell i k → given (TableauToFreeCell i k card) ≡ sense t j
+    unfolding offered
+    means-to-cell e =
+        ap (λ (c : Card). given (TableauToFreeCell i k c)) (sym (top-card (there t (column i)) card (top-of e))) ∙ ap (sense t) (sym e)
+
+    pub means-from-cell : j ≡ FromCell i k → given (FreeCellToTableau i k card) ≡ sense t j
+    unfolding offered
+    means-from-cell e =
+        ap (λ (c : Card). given (FreeCellToTableau i k c)) (sym (top-card (there t (cell i)) card (top-of e))) ∙ ap (sense t) (sym e)
+
+  module _ {i : ℕ} where
+    pub means-to-home : j ≡ ToHome i → given (TableauToFoundation i card) ≡ sense t j
+    unfolding offered
+    means-to-home e =
+        ap (λ (c : Card). given (TableauToFoundation i c)) (sym (top-card (there t (column i)) card (top-of e))) ∙ ap (sense t) (sym e)
+
+    pub means-cell-home : j ≡ CellHome i → given (FreeCellToFoundation i card) ≡ sense t j
+    unfolding offered
+    means-cell-home e =
+        ap (λ (c : Card). given (FreeCellToFoundation i c)) (sym (top-card (there t (cell i)) card (top-of e))) ∙ ap (sense t) (sym e)
+
+-- ---- any written move
+
+module _ (t : Table) (j : Jot) where
+  pub meant-own : leaves j ≡ false → refused 30 ≡ meant t j
+  unfolding meant
+  meant-own e = sym (rw e)
+
+  module _ (away : leaves j ≡ true) where
+    pub meant-bare : topOf (there t (origin j)) ≡ Empty → refused 33 ≡ meant t j
+    unfolding meant
+    meant-bare e = sym (rw (away, lt-leb 1 (length (there t (origin j))) (let z = top-empty (there t (origin j)) e in omega arith)))
+
+    pub meant-there : {c : Card} → topOf (there t (origin j)) ≡ Is c → sense t j ≡ meant t j
+    meant-there {c} e = sym (meant-sense t j away (let z = some-there (there t (origin j)) c e in omega arith))
