@@ -4,6 +4,7 @@ pub mod Forming
 pub mod Stopping
 pub mod Meaning
 pub mod Finding
+pub mod Taking
 pub mod Reading
 pub mod Opened
 pub mod Examples

@@ -4,6 +4,7 @@ use moves::MOST_MOVES;
 use moves::Move;
 
 pub mod form;
+pub mod read;
 pub mod sense;
 
 // Room for any line: four signs a move, and a space between two.
@@ -71,4 +72,10 @@ pub enum LineAnswer {
 pub enum MoveAnswer {
     Is(Move),
     Refused(Refusal),
+}
+
+// The written move at a place of a line, and the place of the next; or the text is no line.
+enum Cut {
+    Is(Jot, usize),
+    Wrong,
 }

@@ -1,0 +1,63 @@
+// A line read: its moves one after the other, each played on the board that those before it leave.
+ghost use mathlib.Core.Path.{_≡_};
+ghost use mathlib.Core.Bool.{true};
+ghost use Prim.Native.Nat.{_+_, _*_, _<_, _≤_};
+ghost use lib.ListN.{length};
+ghost use Rattle.base.specs.Answer.{given};
+ghost use Rattle.board.specs.Record.{shown, laid};
+ghost use Rattle.board.specs.Inner.{Sound};
+ghost use Rattle.moves.specs.Move.{sayable};
+ghost use Rattle.paper.specs.Jot.{WellMade};
+ghost use Rattle.paper.specs.Meant.{meant};
+ghost use Rattle.paper.specs.Inner.{Takes};
+use crate::Jot;
+use crate::MoveAnswer;
+use crate::sense::meant_at;
+use board::CODES;
+use board::Examined;
+use board::Refusal;
+use moves::Move;
+
+// 30, 33 to 40, or the move is played and its record written after n others.
+fn make(
+    m: Move,
+    list: &mut [u8],
+    n: usize,
+    cells: &mut [u8; 4],
+    foundation: &mut [u8; 4],
+    counts: &mut [u8; 8],
+    tableau: &mut [u8; CODES],
+) -> Examined
+    requires { ⌜ Sound (laid (now cells) (now foundation) (now counts) (now tableau)) ⌝ }
+    requires { ⌜ sayable m ≡ true ⌝ }
+    requires { ⌜ (n + 1) * 5 ≤ length (now list) ⌝ }
+    ensures { λ r. ⌜ Takes (laid (now (cells .entry)) (now (foundation .entry)) (now (counts .entry)) (now (tableau .entry))) (laid (now (cells .exit)) (now (foundation .exit)) (now (counts .exit)) (now (tableau .exit))) (given m) (now (list .entry)) (now (list .exit)) n r ⌝ }
+{
+    if let Examined::Refused(why) = play::rule::ruled_at(cells, foundation, counts, tableau, m) {
+        return Examined::Refused(why);
+    }
+    moves::write(list, n, m);
+    play::apply_to(m, cells, foundation, counts, tableau);
+    Examined::WellFormed
+}
+
+// The same for a written move.
+fn take(
+    jot: Jot,
+    list: &mut [u8],
+    n: usize,
+    cells: &mut [u8; 4],
+    foundation: &mut [u8; 4],
+    counts: &mut [u8; 8],
+    tableau: &mut [u8; CODES],
+) -> Examined
+    requires { ⌜ Sound (laid (now cells) (now foundation) (now counts) (now tableau)) ⌝ }
+    requires { ⌜ WellMade jot ⌝ }
+    requires { ⌜ (n + 1) * 5 ≤ length (now list) ⌝ }
+    ensures { λ r. ⌜ Takes (laid (now (cells .entry)) (now (foundation .entry)) (now (counts .entry)) (now (tableau .entry))) (laid (now (cells .exit)) (now (foundation .exit)) (now (counts .exit)) (now (tableau .exit))) (meant (shown (laid (now (cells .entry)) (now (foundation .entry)) (now (counts .entry)) (now (tableau .entry)))) jot) (now (list .entry)) (now (list .exit)) n r ⌝ }
+{
+    match meant_at(cells, foundation, counts, tableau, jot) {
+        MoveAnswer::Is(m) => make(m, list, n, cells, foundation, counts, tableau),
+        MoveAnswer::Refused(why) => Examined::Refused(why),
+    }
+}
