@@ -5,6 +5,7 @@ pub mod Stopping
 pub mod Meaning
 pub mod Finding
 pub mod Taking
+pub mod Cutting
 pub mod Reading
 pub mod Opened
 pub mod Examples

@@ -21,7 +21,7 @@ use Rattle.replay.proofs.Stepping.{became, sound-after}
 use Rattle.paper.specs.Jot.{WellMade}
 use Rattle.paper.specs.Meant.{meant}
 use Rattle.paper.specs.Lines.{ruled}
-use Rattle.paper.specs.Inner.{Took, Takes}
+use Rattle.paper.specs.ReadInner.{Took, Takes}
 use Rattle.paper.specs.declared.Jot.{Jot}
 use Rattle.paper.proofs.Meaning.{meant-said}
 

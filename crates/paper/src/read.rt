@@ -9,9 +9,13 @@ ghost use Rattle.board.specs.Inner.{Sound};
 ghost use Rattle.moves.specs.Move.{sayable};
 ghost use Rattle.paper.specs.Jot.{WellMade};
 ghost use Rattle.paper.specs.Meant.{meant};
-ghost use Rattle.paper.specs.Inner.{Takes};
+ghost use Rattle.paper.specs.ReadInner.{Takes, Cuts, EndCuts};
+use crate::Cut;
+use crate::Due;
 use crate::Jot;
 use crate::MoveAnswer;
+use crate::Step;
+use crate::form::step_from;
 use crate::sense::meant_at;
 use board::CODES;
 use board::Examined;
@@ -60,4 +64,49 @@ fn take(
         MoveAnswer::Is(m) => make(m, list, n, cells, foundation, counts, tableau),
         MoveAnswer::Refused(why) => Examined::Refused(why),
     }
+}
+
+// The text ends where something is due: after a whole move, or too early.
+fn last_jot(due: Due, end: usize) -> Cut
+    ensures { λ r. ⌜ EndCuts due end r ⌝ }
+{
+    match due {
+        Due::Pair(source, destination) => {
+            let jot = Jot::Between {
+                source,
+                destination,
+            };
+            Cut::Is(jot, end)
+        }
+        Due::Whole(jot) => Cut::Is(jot, end),
+        Due::Source => Cut::Wrong,
+        Due::OfColumn(_) => Cut::Wrong,
+        Due::OfCell(_) => Cut::Wrong,
+        Due::Digit(_, _) => Cut::Wrong,
+    }
+}
+
+// The written move at a place, and the place of the next.
+fn jot_at(text: &[u8], at: usize) -> Cut
+    requires { ⌜ at < length (now text) ⌝ }
+    ensures { λ r. ⌜ Cuts (now (text .entry)) at r ⌝ }
+{
+    let mut due = Due::Source;
+    let mut i = at;
+    while i < text.len() {
+        let end = i + 1;
+        match step_from(due, text[i]) {
+            Step::On(then) => {
+                due = then;
+            }
+            Step::Ends(jot) => {
+                return Cut::Is(jot, end);
+            }
+            Step::Wrong => {
+                return Cut::Wrong;
+            }
+        }
+        i = end;
+    }
+    last_jot(due, i)
 }

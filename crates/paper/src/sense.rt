@@ -11,7 +11,7 @@ ghost use Rattle.generate.specs.Found.{offered};
 ghost use Rattle.generate.specs.declared.Way.the-variants.{ColumnToColumn};
 ghost use Rattle.paper.specs.Jot.{WellMade};
 ghost use Rattle.paper.specs.Meant.{mostInto, fitting, origin, leaves, sense, meant};
-ghost use Rattle.paper.specs.Inner.{moveAnswered};
+ghost use Rattle.paper.specs.ReadInner.{moveAnswered};
 ghost use Rattle.paper.specs.declared.Jot.the-variants.{Between, Counted};
 ghost use Rattle.questions.specs.Questions.{topOf};
 ghost use Rattle.questions.specs.declared.Top.the-variants.{Is};

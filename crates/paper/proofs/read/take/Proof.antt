@@ -2,7 +2,7 @@
 use mathlib.Core.Path.{sym, ap, _∙_}
 use Rattle.board.specs.Record.{shown, laid}
 use Rattle.paper.specs.Lines.{ruled}
-use Rattle.paper.specs.Inner.{moveAnswered}
+use Rattle.paper.specs.ReadInner.{moveAnswered}
 use Rattle.paper.proofs.Taking.{take-said, takes-as}
 use borrow.Author.Needs.{needs}
 use Rattle.paper.proofs.read.take.Statement.{statement}
