@@ -5,5 +5,6 @@ pub mod Stopping
 pub mod Meaning
 pub mod Reading
 pub mod Asking
+pub mod Checking
 pub mod Opened
 pub mod Examples
