@@ -7,5 +7,7 @@ pub mod Finding
 pub mod Taking
 pub mod Cutting
 pub mod Reading
+pub mod Asking
+pub mod Checking
 pub mod Opened
 pub mod Examples

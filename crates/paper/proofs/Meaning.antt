@@ -1,14 +1,14 @@
 -- What is written for a move means that move, and a meaning is written as it was.
-use mathlib.Core.Path.{_≡_, refl, sym, ap, ap₂, _∙_, subst}
+use mathlib.Core.Path.{_≡_, refl, sym, ap, _∙_, subst}
 use mathlib.Core.Bool.{Bool, true, false, cond, not, _&&_}
-use mathlib.Core.List.{List, [], _∷_}
+use mathlib.Core.List.{List, []}
 use Prim.Native.Nat.{ℕ, zero, suc, min, _-_, _<_, _≤_}
 use native.Mathlib.Omega.{arith}
 use native.Mathlib.Decide.{ℕ-discrete}
 use borrow.Author.Tests.{le-leb, leb-true, ltb-true, ltb-false, lt-ltb, le-ltb, eqb-false}
 use lib.Dec.{eqb, leb, ltb}
 use lib.ListN.{length, getD}
-use Rattle.base.specs.Answer.{Answer, given, refused, unless}
+use Rattle.base.specs.Answer.{Answer, given, unless}
 use Rattle.base.proofs.Answers.{given-by}
 use Rattle.base.proofs.Words.{both, first, second, second-fails, true-or-not, all-at}
 use Rattle.card.specs.Card.{isCard, cardOf}

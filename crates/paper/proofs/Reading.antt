@@ -1,23 +1,20 @@
 -- Reading what was written gives the same moves, so that no two lists share a text; and writing what was read gives the text again.
-use mathlib.Core.Path.{_≡_, refl, sym, ap, ap₂, _∙_, subst}
+use mathlib.Core.Path.{_≡_, refl, ap, ap₂, _∙_, subst}
 use mathlib.Core.Bool.{Bool, true, false, cond, _&&_}
 use mathlib.Core.List.{List, [], _∷_}
-use Prim.Native.Nat.{ℕ, suc, min, _+_, _*_, _<_, _≤_}
+use Prim.Native.Nat.{ℕ, suc, _<_, _≤_}
 use native.Mathlib.Omega.{arith}
 use borrow.Author.Tests.{le-leb, leb-true, ltb-true, lt-ltb}
 use lib.Dec.{leb, ltb}
 use lib.ListN.{length}
 use Rattle.base.specs.Answer.{Answer, given, refused, unless}
-use Rattle.base.proofs.Words.{second, true-or-not}
-use Rattle.card.specs.declared.Card.{Card}
+use Rattle.base.proofs.Words.{second}
 use Rattle.board.specs.Table.{Table}
 use Rattle.board.specs.Verdict.{Verdict, fine, after}
 use Rattle.board.specs.Fair.{Fair}
-use Rattle.runs.specs.Run.{runLength}
-use Rattle.rules.specs.Limit.{mostMoved}
 use Rattle.rules.proofs.Laying.{run-13}
 use Rattle.moves.specs.Move.{sayable}
-use Rattle.moves.specs.Play.{there, allowed, afterMove}
+use Rattle.moves.specs.Play.{there, afterMove}
 use Rattle.moves.specs.Causes.{ruling}
 use Rattle.moves.specs.declared.Place.the-variants.{Column as column}
 use Rattle.moves.specs.declared.Move.{Move}
@@ -28,10 +25,10 @@ use Rattle.moves.proofs.Ruling.{allowed-fine, fine-allowed}
 use Rattle.replay.specs.Played.{Legal}
 use Rattle.paper.specs.Jot.{lineText, WellMade, AllWell}
 use Rattle.paper.specs.Form.{Reading, jots, wrong, lineIn}
-use Rattle.paper.specs.Meant.{vacant, mostInto, meant, writable, jotOf}
-use Rattle.paper.specs.Lines.{Outcome, gives, refuses, refusesAt, checked, mostMoves, ruled, first, readOn, movesFrom, readBy, lineRead, jotsOf, textOf, writableFirst, Writable}
+use Rattle.paper.specs.Meant.{vacant, mostInto, meant, jotOf}
+use Rattle.paper.specs.Lines.{Outcome, gives, refuses, refusesAt, checked, mostMoves, ruled, first, readOn, movesFrom, readBy, lineRead, jotsOf, textOf, Writable}
 use Rattle.paper.specs.declared.Jot.{Jot}
-use Rattle.paper.specs.declared.Jot.the-variants.{Between, Counted, ToCell, ToHome, FromCell, CellHome}
+use Rattle.paper.specs.declared.Jot.the-variants.{Between, Counted}
 use Rattle.paper.proofs.Forming.{line-long, form-back, form-forth}
 use Rattle.paper.proofs.Stopping.{form-well}
 use Rattle.paper.proofs.Meaning.{jot-means, meant-jot, meant-said}

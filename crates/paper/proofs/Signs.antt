@@ -1,5 +1,5 @@
 -- What each sign does where something is due.
-use mathlib.Core.Path.{_≡_, refl, ap, _∙_}
+use mathlib.Core.Path.{_≡_, refl, ap}
 use mathlib.Core.Bool.{Bool, true, false, cond, _||_}
 use Prim.Native.Nat.{ℕ, _+_, _-_, _<_, _≤_}
 use native.Mathlib.Omega.{arith}
@@ -10,9 +10,8 @@ use Rattle.paper.specs.Jot.{columnSign, cellSign, homeSign, countSign, d
 use Rattle.paper.specs.Form.{within, isDigit, digitSaid, stepFrom}
 use Rattle.paper.specs.declared.Jot.{Jot}
 use Rattle.paper.specs.declared.Jot.the-variants.{Between, Counted, ToCell, ToHome, FromCell, CellHome}
-use Rattle.paper.specs.declared.Due.{Due}
 use Rattle.paper.specs.declared.Due.the-variants.{Source, OfColumn, OfCell, Pair, Digit, Whole}
-use Rattle.paper.specs.declared.Step.the-variants.{On, Ends, Wrong}
+use Rattle.paper.specs.declared.Step.the-variants.{On, Ends}
 
 -- ---- a sign in a range
 
@@ -41,6 +40,14 @@ or-right false b e = e
 
 or-left : (a b : Bool) → a ≡ true → (a || b) ≡ true
 or-left a b e = rw e
+
+-- a digit is no sign below 0, and past 9 none below a
+pub digit-range : (x : ℕ) → isDigit x ≡ true → (48 ≤ x) × (57 < x → 97 ≤ x)
+digit-range x e = by-range (within 48 57 x) refl e
+  where
+    by-range : (a : Bool) → within 48 57 x ≡ a → (a || within 97 102 x) ≡ true → (48 ≤ x) × (57 < x → 97 ≤ x)
+    by-range true q f = let w = within-is 48 57 x q in (omega arith, λ h. omega arith)
+    by-range false q f = let w = within-is 97 102 x f in (omega arith, λ h. omega arith)
 
 pub digit-sign : (n : ℕ) → n < 16 → isDigit (digitSign n) ≡ true
 unfolding digitSign

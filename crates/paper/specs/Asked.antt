@@ -1,6 +1,5 @@
 -- Lines read and written as they are asked for: what is told, and what is left in the lent room. A refusal changes nothing.
 use mathlib.Core.Path.{_≡_}
-use mathlib.Core.Bool.{Bool, cond}
 use mathlib.Core.List.{List, [], _∷_}
 use Prim.Native.Nat.{ℕ}
 use lib.Dec.{eqb, leb}

@@ -4,7 +4,7 @@ use mathlib.Core.List.{[]}
 use Prim.Native.Nat.{ℕ, zero, suc, min}
 use lib.Dec.{eqb, leb, ltb}
 use lib.ListN.{length, getD}
-use Rattle.base.specs.Answer.{Answer, given, refused, unless}
+use Rattle.base.specs.Answer.{Answer, given, unless}
 use Rattle.board.specs.Table.{Table}
 use Rattle.runs.specs.Run.{runLength}
 use Rattle.rules.specs.Fit.{fitsOn}
