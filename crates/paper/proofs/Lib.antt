@@ -6,6 +6,7 @@ pub mod Meaning
 pub mod Finding
 pub mod Taking
 pub mod Cutting
+pub mod Passing
 pub mod Reading
 pub mod Asking
 pub mod Checking

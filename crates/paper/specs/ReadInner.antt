@@ -17,7 +17,7 @@ use Rattle.moves.specs.Written.{written, Adds}
 use Rattle.moves.specs.declared.Move.{Move}
 use Rattle.paper.specs.Form.{Reading, jots, wrong, ending, readFrom}
 use Rattle.paper.specs.Lines.{Outcome, gives, refuses, refusesAt, mostMoves, ruled}
-use Rattle.paper.specs.Asked.{counted, lineTold}
+use Rattle.paper.specs.Asked.{counted, lineTold, listAfter}
 use Rattle.paper.specs.declared.Jot.{Jot}
 use Rattle.paper.specs.declared.Due.{Due}
 use Rattle.paper.specs.declared.Due.the-variants.{Source}
@@ -94,6 +94,12 @@ LeftBy (gives ms) old new = new ≡ written old 0 ms
 LeftBy (refuses n) old new = Unit {0}
 LeftBy (refusesAt n p) old new = Unit {0}
 
+-- the answer and the records of a line
 pub record ReadTo (o : Outcome (List Move)) (old new : List ℕ) (r : LineAnswer) : Type 0 where
   pub told : lineTold r ≡ counted o
   pub left : LeftBy o old new
+
+-- the answer, and the records in lent room; a refusal changes nothing
+pub record ReadInto (o : Outcome (List Move)) (old new : List ℕ) (r : LineAnswer) : Type 0 where
+  pub told : lineTold r ≡ counted o
+  pub room : new ≡ listAfter o old

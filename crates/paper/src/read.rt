@@ -7,19 +7,31 @@ ghost use Rattle.base.specs.Answer.{given};
 ghost use Rattle.board.specs.Record.{shown, laid};
 ghost use Rattle.board.specs.Inner.{Sound};
 ghost use Rattle.moves.specs.Move.{sayable};
+ghost use Rattle.moves.specs.Written.{listRoom};
 ghost use Rattle.paper.specs.Jot.{WellMade};
+ghost use Rattle.paper.specs.Form.{lineIn, formedBy};
 ghost use Rattle.paper.specs.Meant.{meant};
-ghost use Rattle.paper.specs.ReadInner.{Takes, Cuts, EndCuts};
+ghost use Rattle.paper.specs.Lines.{lineRead};
+ghost use Rattle.paper.specs.Asked.{Reads};
+ghost use Rattle.paper.specs.ReadInner.{Takes, Cuts, EndCuts, Few, ReadTo, ReadInto};
 use crate::Cut;
 use crate::Due;
+use crate::Formed;
 use crate::Jot;
+use crate::LineAnswer;
 use crate::MoveAnswer;
 use crate::Step;
+use crate::form::check;
 use crate::form::step_from;
 use crate::sense::meant_at;
+use base::put::put_bytes;
+use board::Board;
 use board::CODES;
 use board::Examined;
 use board::Refusal;
+use board::verdict::inspect;
+use moves::LIST_ROOM;
+use moves::MOST_MOVES;
 use moves::Move;
 
 // 30, 33 to 40, or the move is played and its record written after n others.
@@ -109,4 +121,34 @@ fn jot_at(text: &[u8], at: usize) -> Cut
         i = end;
     }
     last_jot(due, i)
+}
+
+// The moves of a line of at most 200, one after the other, on a well formed board: the first bad one, or their records.
+fn read_to(
+    text: &[u8],
+    list: &mut [u8],
+    cells: &mut [u8; 4],
+    foundation: &mut [u8; 4],
+    counts: &mut [u8; 8],
+    tableau: &mut [u8; CODES],
+) -> LineAnswer
+    requires { ⌜ Sound (laid (now cells) (now foundation) (now counts) (now tableau)) ⌝ }
+    requires { ⌜ Few (lineIn (now text)) ⌝ }
+    requires { ⌜ listRoom ≤ length (now list) ⌝ }
+    ensures { λ r. ⌜ ReadTo (lineRead (shown (laid (now (cells .entry)) (now (foundation .entry)) (now (counts .entry)) (now (tableau .entry)))) (now (text .entry))) (now (list .entry)) (now (list .exit)) r ⌝ }
+{
+    let mut n = 0;
+    let mut at = 0;
+    while at < text.len() {
+        let Cut::Is(jot, next) = jot_at(text, at) else {
+            return LineAnswer::RefusedAt(Refusal::WrongText, at);
+        };
+        let said = take(jot, list, n, cells, foundation, counts, tableau);
+        if let Examined::Refused(why) = said {
+            return LineAnswer::RefusedAt(why, n);
+        }
+        n += 1;
+        at = next;
+    }
+    LineAnswer::Count(n)
 }
