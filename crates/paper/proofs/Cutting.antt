@@ -116,3 +116,12 @@ module _ {text : List ℕ} {at : ℕ} {due : Due} {i : ℕ} (c : Cutting text at
 
 pub cutting-same : {text : List ℕ} {at i : ℕ} {due e : Due} → due ≡ e → Cutting text at e i → Cutting text at due i
 cutting-same {text} {at} {i} p c = subst (λ (d : Due). Cutting text at d i) (sym p) c
+
+-- ---- by what was answered
+
+module _ {text : List ℕ} {at : ℕ} {r : Cut} (t : Cuts text at r) where
+  pub cut-is : {j : Jot} {next : ℕ} → r ≡ cut.Is j next → CutAt text at j next
+  cut-is e = subst (CutOrNot text at) e (t .told)
+
+  pub cut-no : r ≡ cut.Wrong → NoLine text at
+  cut-no e = subst (CutOrNot text at) e (t .told)

@@ -8,7 +8,10 @@ use Rattle.board.specs.Verdict.{Verdict, fine, after}
 use Rattle.board.specs.Record.{shown}
 use Rattle.board.specs.Inner.{Sound}
 use Rattle.board.specs.declared.Board.{Board}
+use Rattle.board.specs.Refusal.{numberOf}
+use Rattle.board.specs.declared.Refusal.{Refusal}
 use Rattle.board.specs.declared.Examined.{Examined}
+use Rattle.board.specs.declared.Examined.the-variants.{WellFormed, Refused}
 use Rattle.board.proofs.Fair.{shows-fair}
 use Rattle.moves.specs.Move.{sayable}
 use Rattle.moves.specs.Play.{afterMove}
@@ -21,7 +24,7 @@ use Rattle.replay.proofs.Stepping.{became, sound-after}
 use Rattle.paper.specs.Jot.{WellMade}
 use Rattle.paper.specs.Meant.{meant}
 use Rattle.paper.specs.Lines.{ruled}
-use Rattle.paper.specs.ReadInner.{Took, Takes}
+use Rattle.paper.specs.ReadInner.{Took, TookOrNot, Takes}
 use Rattle.paper.specs.declared.Jot.{Jot}
 use Rattle.paper.proofs.Meaning.{meant-said}
 
@@ -45,3 +48,10 @@ module _ {b : Board} (s : Sound b) (m : Move) where
 
 pub takes-as : {b c : Board} {old new : List ℕ} {n : ℕ} {r : Examined} {a d : Answer Move} → a ≡ d → Takes b c a old new n r → Takes b c d old new n r
 takes-as {b} {c} {old} {new} {n} {r} e t = subst (λ (x : Answer Move). Takes b c x old new n r) e t
+
+module _ {b c : Board} {old new : List ℕ} {n : ℕ} {r : Examined} {a : Answer Move} (t : Takes b c a old new n r) where
+  pub took-yes : r ≡ WellFormed → Took b c a old new n
+  took-yes e = subst (TookOrNot b c a old new n) e (t .told)
+
+  pub took-no : {why : Refusal} → r ≡ Refused why → ruled (shown b) a ≡ refused (numberOf why)
+  took-no e = subst (TookOrNot b c a old new n) e (t .told)
