@@ -8,6 +8,7 @@ pub mod Taking
 pub mod Cutting
 pub mod Passing
 pub mod Reading
+pub mod Handing
 pub mod Asking
 pub mod Checking
 pub mod Opened

@@ -13,6 +13,7 @@ ghost use Rattle.paper.specs.Form.{lineIn, formedBy};
 ghost use Rattle.paper.specs.Meant.{meant};
 ghost use Rattle.paper.specs.Lines.{lineRead};
 ghost use Rattle.paper.specs.Asked.{Reads};
+ghost use Rattle.paper.specs.declared.Formed.the-variants as formed;
 ghost use Rattle.paper.specs.ReadInner.{Takes, Cuts, EndCuts, Few, ReadTo, ReadInto};
 use crate::Cut;
 use crate::Due;
@@ -151,4 +152,64 @@ fn read_to(
         at = next;
     }
     LineAnswer::Count(n)
+}
+
+// A line of at most 200 moves on a well formed board. The records are made in room of our own: a refusal leaves what is lent.
+fn read_few(b: Board, text: &[u8], list: &mut [u8]) -> LineAnswer
+    requires { ⌜ Sound b ⌝ }
+    requires { ⌜ Few (lineIn (now text)) ⌝ }
+    requires { ⌜ listRoom ≤ length (now list) ⌝ }
+    ensures { λ r. ⌜ ReadInto (lineRead (shown b) (now (text .entry))) (now (list .entry)) (now (list .exit)) r ⌝ }
+{
+    let mut cells = b.cells;
+    let mut foundation = b.foundation;
+    let mut counts = b.counts;
+    let mut tableau = b.tableau;
+    let mut records = [0u8; LIST_ROOM];
+    let read = read_to(
+        text,
+        &mut records,
+        &mut cells,
+        &mut foundation,
+        &mut counts,
+        &mut tableau,
+    );
+    match read {
+        LineAnswer::Count(n) => {
+            let used = n * 5;
+            put_bytes(list, 0, &records[0..used]);
+            LineAnswer::Count(n)
+        }
+        LineAnswer::Refused(why) => LineAnswer::Refused(why),
+        LineAnswer::RefusedAt(why, place) => LineAnswer::RefusedAt(why, place),
+    }
+}
+
+// A line of n moves: 31 past 200.
+fn read_formed(b: Board, text: &[u8], n: usize, list: &mut [u8]) -> LineAnswer
+    requires { ⌜ Sound b ⌝ }
+    requires { ⌜ formedBy (lineIn (now text)) ≡ formed.Moves n ⌝ }
+    requires { ⌜ listRoom ≤ length (now list) ⌝ }
+    ensures { λ r. ⌜ ReadInto (lineRead (shown b) (now (text .entry))) (now (list .entry)) (now (list .exit)) r ⌝ }
+{
+    if MOST_MOVES < n {
+        return LineAnswer::Refused(Refusal::WrongList);
+    }
+    read_few(b, text, list)
+}
+
+// 12 to 15, 21, 42 with the place of the first wrong sign, 31, the first bad move's number with its place, or the moves' records.
+pub fn read_line(b: Board, text: &[u8], list: &mut [u8]) -> LineAnswer
+    ensures { λ r. ⌜ Reads b (now (text .entry)) (now (list .entry)) (now (list .exit)) r ⌝ }
+{
+    if let Examined::Refused(why) = inspect(&b.cells, &b.foundation, &b.counts, &b.tableau) {
+        return LineAnswer::Refused(why);
+    }
+    if list.len() < LIST_ROOM {
+        return LineAnswer::Refused(Refusal::LittleRoom);
+    }
+    match check(text) {
+        Formed::Moves(n) => read_formed(b, text, n, list),
+        Formed::WrongAt(place) => LineAnswer::RefusedAt(Refusal::WrongText, place),
+    }
 }
