@@ -3,5 +3,6 @@ pub mod Signs
 pub mod Forming
 pub mod Stopping
 pub mod Meaning
+pub mod Signing
 pub mod Opened
 pub mod Examples

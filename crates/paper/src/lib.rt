@@ -3,6 +3,7 @@ use board::Refusal;
 use moves::MOST_MOVES;
 
 pub mod form;
+pub mod write;
 
 // Room for any line: four signs a move, and a space between two.
 pub const TEXT_ROOM: usize = 5 * MOST_MOVES - 1;
