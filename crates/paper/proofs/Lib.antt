@@ -3,6 +3,8 @@ pub mod Signs
 pub mod Forming
 pub mod Stopping
 pub mod Meaning
+pub mod Reading
+pub mod Asking
 pub mod Signing
 pub mod Opened
 pub mod Examples

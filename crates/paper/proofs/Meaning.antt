@@ -5,21 +5,22 @@ use mathlib.Core.List.{List, [], _∷_}
 use Prim.Native.Nat.{ℕ, zero, suc, min, _-_, _<_, _≤_}
 use native.Mathlib.Omega.{arith}
 use native.Mathlib.Decide.{ℕ-discrete}
-use borrow.Author.Tests.{le-leb, ltb-true, ltb-false, eqb-true, eqb-false, le-ltb}
+use borrow.Author.Tests.{le-leb, leb-true, ltb-true, ltb-false, lt-ltb, le-ltb, eqb-false}
 use lib.Dec.{eqb, leb, ltb}
 use lib.ListN.{length, getD}
 use Rattle.base.specs.Answer.{Answer, given, refused, unless}
 use Rattle.base.proofs.Answers.{given-by}
-use Rattle.base.proofs.Words.{both, first, second, second-fails, true-or-not}
-use Rattle.card.specs.Card.{cardOf, codeOf}
+use Rattle.base.proofs.Words.{both, first, second, second-fails, true-or-not, all-at}
+use Rattle.card.specs.Card.{isCard, cardOf}
 use Rattle.card.specs.declared.Card.{Card}
-use Rattle.card.proofs.Codes.{card-code}
+use Rattle.card.proofs.Codes.{card-code, value-of-card}
 use Rattle.board.specs.Table.{Table}
+use Rattle.board.specs.Fair.{Fair}
 use Rattle.runs.specs.Follows.{follows}
 use Rattle.runs.specs.Run.{runLength}
 use Rattle.rules.specs.Fit.{fitsOn}
 use Rattle.rules.specs.Limit.{mostMoved}
-use Rattle.rules.proofs.Laying.{fits-top}
+use Rattle.rules.proofs.Laying.{fits-top, run-one, run-top, run-at-most, run-13, most-one}
 use Rattle.rules.proofs.Lengths.{one-length}
 use Rattle.moves.specs.Move.{from, count, card, sayable}
 use Rattle.moves.specs.Play.{there, lastOf, hand, allowed}
@@ -27,10 +28,15 @@ use Rattle.moves.specs.declared.Place.the-variants.{Column as column}
 use Rattle.moves.specs.declared.Move.{Move}
 use Rattle.moves.specs.declared.Move.the-variants.{TableauToTableau, TableauToFoundation, TableauToFreeCell, FreeCellToTableau, FreeCellToFoundation, FoundationToTableau}
 use Rattle.moves.proofs.Records.{said-count}
-use Rattle.moves.proofs.Allowing.{Allowed, allowed-is, last-first}
-use Rattle.generate.specs.Found.{offered}
-use Rattle.generate.specs.declared.Way.the-variants.{ColumnToColumn, ColumnToHome, ColumnToCell, CellToColumn, CellToHome}
+use Rattle.moves.proofs.Allowing.{allowed-is, last-first}
+use Rattle.moves.proofs.Fairness.{fair-cards}
+use Rattle.generate.specs.Found.{sourceCount, source, targetCount, offered}
+use Rattle.generate.specs.declared.Way.{Way}
+use Rattle.generate.specs.declared.Way.the-variants.{ColumnToColumn, ColumnToHome, ColumnToCell, CellToColumn, CellToHome, HomeToColumn}
+use Rattle.generate.proofs.Places.{source-there}
+use Rattle.generate.proofs.Offering.{said-way}
 use Rattle.generate.proofs.Columns.{run-bounds}
+use Rattle.paper.specs.Jot.{WellMade}
 use Rattle.paper.specs.Meant.{vacant, mostInto, fitFrom, fittingIn, fitting, origin, leaves, countGoes, sense, meant, writable, jotOf}
 use Rattle.paper.specs.declared.Jot.{Jot}
 use Rattle.paper.specs.declared.Jot.the-variants.{Between, Counted, ToCell, ToHome, FromCell, CellHome}
@@ -219,3 +225,116 @@ pub meant-jot : (t : Table) (j : Jot) {m : Move} → meant t j ≡ given m → j
 unfolding meant
 meant-jot t j e =
     means-jot t j (given-by (leb 1 (length (there t (origin j)))) 33 (sense t j) (given-by (leaves j) 30 _ e .1) .1)
+
+-- ---- a meaning can be said and written
+
+pub record Sayable (m : Move) : Type 0 where
+  pub said : sayable m ≡ true
+  pub writes : writable m ≡ true
+
+-- a kind that takes from a foundation
+abbrev isHome : Way → Bool
+isHome ColumnToColumn = false
+isHome ColumnToHome = false
+isHome ColumnToCell = false
+isHome CellToColumn = false
+isHome CellToHome = false
+isHome HomeToColumn = true
+
+offered-writable : (t : Table) (w : Way) (i j n : ℕ) → isHome w ≡ false → writable (offered t w i j n) ≡ true
+unfolding offered
+offered-writable t ColumnToColumn i j n d = refl
+offered-writable t ColumnToHome i j n d = refl
+offered-writable t ColumnToCell i j n d = refl
+offered-writable t CellToColumn i j n d = refl
+offered-writable t CellToHome i j n d = refl
+offered-writable t HomeToColumn i j n d = true-or-not true refl d
+
+count-bounds : (t : Table) (i j n : ℕ) → countGoes t i j n ≡ true → (1 ≤ n) × (n < mostInto t i j)
+unfolding countGoes
+count-bounds t i j n e =
+    let r = second (vacant t j) _ e in
+    (leb-true 1 n (first (leb 1 n) (ltb n (mostInto t i j)) r), ltb-true n (mostInto t i j) (second (leb 1 n) (ltb n (mostInto t i j)) r))
+
+offered-said : (t : Table) (w : Way) (i j n : ℕ) → isHome w ≡ false → Fair t → i < sourceCount w → j < targetCount w → 1 ≤ n → n ≤ length (there t (source w i)) → n ≤ 255
+    → Sayable (offered t w i j n)
+unfolding offered
+offered-said t w i j n d f hi hj one many most =
+    let l = there t (source w i) in
+    record {
+      writes = offered-writable t w i j n d;
+      said = said-way w i j n (cardOf (getD (lastOf n l) 0 0)) hi hj one most
+          (value-of-card (getD (lastOf n l) 0 0)
+          (subst (λ (y : ℕ). isCard y ≡ true) (sym (last-first n l)) (all-at isCard l (fair-cards t (source w i) f (source-there w i hi)) (length l - n) (omega arith))));
+    }
+
+-- a column with a card ends in a run
+run-some : (l : List ℕ) → 1 ≤ length l → 1 ≤ runLength l
+run-some l h =
+    let top = length l - 1 in
+    let r = leb-true (length l - top) (runLength l) (sym (run-top l top (omega arith)) ∙ run-one l top (omega arith)) in
+    omega arith
+
+most-some : (t : Table) (i j : ℕ) → 1 ≤ length (there t (column i)) → 1 ≤ mostInto t i j
+unfolding mostInto
+most-some t i j h = let r = run-some (there t (column i)) h in let m = most-one (t .cells) (t .columns) j in omega arith
+
+most-run : (t : Table) (i j : ℕ) → mostInto t i j ≤ runLength (there t (column i))
+unfolding mostInto
+most-run t i j = omega arith
+
+fitting-most : (t : Table) (i j n : ℕ) → fittingIn t i j n ≤ n
+unfolding fittingIn
+fitting-most t i j zero = omega arith
+fitting-most t i j (suc n) = by-fit (fitFrom t i j (suc n)) (fitting-most t i j n)
+  where
+    by-fit : (b : Bool) → fittingIn t i j n ≤ n → cond b (suc n) (fittingIn t i j n) ≤ suc n
+    by-fit true h = omega arith
+    by-fit false h = omega arith
+
+fitting-run : (t : Table) (i j : ℕ) → fitting t i j ≤ runLength (there t (column i))
+unfolding fitting
+fitting-run t i j = fitting-most t i j (runLength (there t (column i)))
+
+-- a run of no more cards than the column's
+run-said : (t : Table) (i j n : ℕ) → Fair t → i < 8 → j < 8 → 1 ≤ n → n ≤ runLength (there t (column i)) → Sayable (offered t ColumnToColumn i j n)
+run-said t i j n f hi hj one most =
+    let a = run-at-most (there t (column i)) in
+    let r = run-13 (there t (column i)) (fair-cards t (column i) f (lt-ltb i 8 hi)) in
+    offered-said t ColumnToColumn i j n refl f hi hj one (omega arith) (omega arith)
+
+sense-said : (t : Table) (j : Jot) → Fair t → WellMade j → 1 ≤ length (there t (origin j)) → {m : Move} → sense t j ≡ given m → Sayable m
+sense-said t (Between i j) f w some {m} e = by-vacant (vacant t j) e
+  where
+    by-vacant : (b : Bool)
+        → cond b (given (offered t ColumnToColumn i j (mostInto t i j))) (unless (leb 1 (fitting t i j)) 38 (given (offered t ColumnToColumn i j (fitting t i j)))) ≡ given m
+        → Sayable m
+    by-vacant true e =
+        let q : offered t ColumnToColumn i j (mostInto t i j) ≡ m = cc in
+        subst Sayable q (run-said t i j (mostInto t i j) f (w .0) (w .1) (most-some t i j some) (most-run t i j))
+    by-vacant false e =
+        let g = given-by (leb 1 (fitting t i j)) 38 (given (offered t ColumnToColumn i j (fitting t i j))) e in
+        let h = g .1 in
+        let q : offered t ColumnToColumn i j (fitting t i j) ≡ m = cc in
+        subst Sayable q (run-said t i j (fitting t i j) f (w .0) (w .1) (leb-true 1 (fitting t i j) (g .0)) (fitting-run t i j))
+sense-said t (Counted i j n) f w some {m} e =
+    let g = given-by (countGoes t i j n) 30 (given (offered t ColumnToColumn i j n)) e in
+    let h = g .1 in
+    let q : offered t ColumnToColumn i j n ≡ m = cc in
+    let b = count-bounds t i j n (g .0) in
+    let r = most-run t i j in
+    subst Sayable q (run-said t i j n f (w .0) (w .1 .0) (b .0) (omega arith))
+sense-said t (ToCell i c) f w some {m} e =
+    let q : offered t ColumnToCell i c 1 ≡ m = cc in subst Sayable q (offered-said t ColumnToCell i c 1 refl f (w .0) (w .1) (omega arith) some (omega arith))
+sense-said t (ToHome i) f w some {m} e =
+    let q : offered t ColumnToHome i 0 1 ≡ m = cc in subst Sayable q (offered-said t ColumnToHome i 0 1 refl f w (omega arith) (omega arith) some (omega arith))
+sense-said t (FromCell c j) f w some {m} e =
+    let q : offered t CellToColumn c j 1 ≡ m = cc in subst Sayable q (offered-said t CellToColumn c j 1 refl f (w .0) (w .1) (omega arith) some (omega arith))
+sense-said t (CellHome c) f w some {m} e =
+    let q : offered t CellToHome c 0 1 ≡ m = cc in subst Sayable q (offered-said t CellToHome c 0 1 refl f w (omega arith) (omega arith) some (omega arith))
+
+pub meant-said : (t : Table) (j : Jot) → Fair t → WellMade j → {m : Move} → meant t j ≡ given m → Sayable m
+unfolding meant
+meant-said t j f w e =
+    let g = given-by (leb 1 (length (there t (origin j)))) 33 (sense t j) (given-by (leaves j) 30 _ e .1) in
+    sense-said t j f w (leb-true 1 (length (there t (origin j))) (g .0)) (g .1)

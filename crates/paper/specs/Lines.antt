@@ -1,5 +1,6 @@
 -- A line of moves read from a table, and written from it.
-use mathlib.Core.Bool.{Bool, cond}
+use mathlib.Core.Path.{_≡_}
+use mathlib.Core.Bool.{Bool, true, cond}
 use mathlib.Core.List.{List, [], _∷_}
 use Prim.Native.Nat.{ℕ, suc}
 use lib.Dec.{leb}
@@ -76,3 +77,10 @@ textOf t ms = lineText (jotsOf t ms)
 unfoldable pub writableFirst : List Move → ℕ
 writableFirst [] = 0
 writableFirst (m ∷ ms) = cond (writable m) (suc (writableFirst ms)) 0
+
+-- ---- what the laws speak of
+
+-- each can be written
+abbrev pub Writable : List Move → Type 0
+Writable [] = Unit {0}
+Writable (m ∷ ms) = (writable m ≡ true) × Writable ms
