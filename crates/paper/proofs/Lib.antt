@@ -6,5 +6,6 @@ pub mod Meaning
 pub mod Reading
 pub mod Asking
 pub mod Signing
+pub mod Noting
 pub mod Opened
 pub mod Examples
