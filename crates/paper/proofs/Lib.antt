@@ -7,5 +7,6 @@ pub mod Reading
 pub mod Asking
 pub mod Signing
 pub mod Noting
+pub mod Writing
 pub mod Opened
 pub mod Examples

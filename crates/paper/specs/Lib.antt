@@ -4,3 +4,4 @@ pub mod Form
 pub mod Meant
 pub mod Lines
 pub mod Asked
+pub mod Inner

@@ -12,9 +12,14 @@ ghost use Rattle.moves.specs.Move.{sayable};
 ghost use Rattle.moves.specs.declared.Move.the-variants.{TableauToTableau};
 ghost use Rattle.paper.specs.Jot.{columnSign, cellSign, digitSign, jotText, WellMade};
 ghost use Rattle.paper.specs.Meant.{mostInto, jotOf};
+ghost use Rattle.paper.specs.Lines.{textOf};
+ghost use Rattle.paper.specs.Asked.{movesIn};
+ghost use Rattle.paper.specs.Inner.{gap, nextText, Next, Notes, Whole};
 use crate::Jot;
 use base::put::put_bytes;
+use board::Board;
 use board::CODES;
+use moves::Decoded;
 use moves::Move;
 
 // 1 to 8 for the columns.
@@ -202,4 +207,98 @@ fn jot_at<'a>(
             source: destination,
         },
     }
+}
+
+// A space, but for the first move.
+fn put_gap(text: &mut [u8], at: usize) -> usize
+    requires { ⌜ at + length (gap at) ≤ length (now text) ⌝ }
+    ensures { λ r. ⌜ Puts (now (text .entry)) (now (text .exit)) at r (gap at) ⌝ }
+{
+    if at == 0 {
+        return at;
+    }
+    put_bytes(text, at, b" ")
+}
+
+// A move on a board, after what is written up to a place.
+fn put_move<'a>(
+    m: Move,
+    cells: &'a [u8; 4],
+    foundation: &'a [u8; 4],
+    counts: &'a [u8; 8],
+    tableau: &'a [u8; CODES],
+    text: &mut [u8],
+    at: usize,
+) -> usize
+    requires { ⌜ Sound (laid (now cells) (now foundation) (now counts) (now tableau)) ⌝ }
+    requires { ⌜ sayable m ≡ true ⌝ }
+    requires { ⌜ at + length (nextText at (jotOf (shown (laid (now cells) (now foundation) (now counts) (now tableau))) m)) ≤ length (now text) ⌝ }
+    ensures { λ r. ⌜ Puts (now (text .entry)) (now (text .exit)) at r (nextText at (jotOf (shown (laid (now (cells .entry)) (now (foundation .entry)) (now (counts .entry)) (now (tableau .entry)))) m)) ⌝ }
+{
+    let jot = jot_at(m, cells, foundation, counts, tableau);
+    let start = put_gap(text, at);
+    put_jot(text, start, jot)
+}
+
+// The move of a record that can be played: written, then played.
+fn write_record(
+    bytes: &[u8],
+    cells: &mut [u8; 4],
+    foundation: &mut [u8; 4],
+    counts: &mut [u8; 8],
+    tableau: &mut [u8; CODES],
+    text: &mut [u8],
+    at: usize,
+) -> usize
+    requires { ⌜ Next (laid (now cells) (now foundation) (now counts) (now tableau)) (now bytes) at (length (now text)) ⌝ }
+    ensures { λ r. ⌜ Notes (laid (now (cells .entry)) (now (foundation .entry)) (now (counts .entry)) (now (tableau .entry))) (now (bytes .entry)) (now (text .entry)) (now (text .exit)) at r (laid (now (cells .exit)) (now (foundation .exit)) (now (counts .exit)) (now (tableau .exit))) ⌝ }
+{
+    let Decoded::Is(m) = moves::decode(bytes) else {
+        return at;
+    };
+    let end = put_move(m, cells, foundation, counts, tableau, text, at);
+    play::apply_to(m, cells, foundation, counts, tableau);
+    end
+}
+
+// A list that can be played: each move written on the board that those before it leave.
+fn write_moves(
+    bytes: &[u8],
+    cells: &mut [u8; 4],
+    foundation: &mut [u8; 4],
+    counts: &mut [u8; 8],
+    tableau: &mut [u8; CODES],
+    text: &mut [u8],
+) -> usize
+    requires { ⌜ Whole (laid (now cells) (now foundation) (now counts) (now tableau)) (now bytes) (length (now text)) ⌝ }
+    ensures { λ r. ⌜ Puts (now (text .entry)) (now (text .exit)) 0 r (textOf (shown (laid (now (cells .entry)) (now (foundation .entry)) (now (counts .entry)) (now (tableau .entry)))) (movesIn (now (bytes .entry)))) ⌝ }
+{
+    let mut to = 0;
+    let mut at = 0;
+    while at < bytes.len() {
+        let end = at + 5;
+        let record = &bytes[at..end];
+        to = write_record(record, cells, foundation, counts, tableau, text, to);
+        at = end;
+    }
+    to
+}
+
+// The same on a board by value.
+fn write_all(b: Board, bytes: &[u8], text: &mut [u8]) -> usize
+    requires { ⌜ Whole b (now bytes) (length (now text)) ⌝ }
+    ensures { λ r. ⌜ Puts (now (text .entry)) (now (text .exit)) 0 r (textOf (shown b) (movesIn (now (bytes .entry)))) ⌝ }
+{
+    let mut cells = b.cells;
+    let mut foundation = b.foundation;
+    let mut counts = b.counts;
+    let mut tableau = b.tableau;
+    write_moves(
+        bytes,
+        &mut cells,
+        &mut foundation,
+        &mut counts,
+        &mut tableau,
+        text,
+    )
 }
