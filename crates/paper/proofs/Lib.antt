@@ -8,5 +8,7 @@ pub mod Asking
 pub mod Signing
 pub mod Noting
 pub mod Writing
+pub mod Looking
+pub mod Telling
 pub mod Opened
 pub mod Examples

@@ -9,18 +9,28 @@ ghost use Rattle.card.specs.declared.Card.{Card};
 ghost use Rattle.board.specs.Record.{shown, laid};
 ghost use Rattle.board.specs.Inner.{Sound};
 ghost use Rattle.moves.specs.Move.{sayable};
+ghost use Rattle.moves.specs.Record.{moveSaid};
 ghost use Rattle.moves.specs.declared.Move.the-variants.{TableauToTableau};
+ghost use Rattle.replay.specs.Line.{lineFrom, recordsIn, isLine};
 ghost use Rattle.paper.specs.Jot.{columnSign, cellSign, digitSign, jotText, WellMade};
-ghost use Rattle.paper.specs.Meant.{mostInto, jotOf};
-ghost use Rattle.paper.specs.Lines.{textOf};
-ghost use Rattle.paper.specs.Asked.{movesIn};
-ghost use Rattle.paper.specs.Inner.{gap, nextText, Next, Notes, Whole};
+ghost use Rattle.paper.specs.Meant.{mostInto, writable, jotOf};
+ghost use Rattle.paper.specs.Lines.{textOf, writableFirst};
+ghost use Rattle.paper.specs.Asked.{movesIn, Writes};
+ghost use Rattle.paper.specs.Inner.{gap, nextText, Next, Notes, Whole, Stops};
 use crate::Jot;
+use crate::LineAnswer;
+use crate::TEXT_ROOM;
 use base::put::put_bytes;
 use board::Board;
 use board::CODES;
+use board::Examined;
+use board::Refusal;
+use board::verdict::inspect;
 use moves::Decoded;
 use moves::Move;
+use replay::Stopped;
+use replay::is_line;
+use replay::replay_to;
 
 // 1 to 8 for the columns.
 fn column_sign(i: usize) -> u8
@@ -301,4 +311,88 @@ fn write_all(b: Board, bytes: &[u8], text: &mut [u8]) -> usize
         &mut tableau,
         text,
     )
+}
+
+// A record of kinds 1 to 5 has its signs; a card that comes back from its foundation has none.
+fn is_writable(kind: u8) -> bool
+    ensures { λ r. ⌜ ((f t n code : ℕ) → r ≡ writable (moveSaid kind f t n code)) ⌝ }
+{
+    if kind == 0 {
+        return false;
+    }
+    kind < 6
+}
+
+// How many moves come before the first that cannot be written.
+fn first_unwritable(bytes: &[u8]) -> usize
+    requires { ⌜ length (now bytes) % 5 ≡ 0 ⌝ }
+    ensures { λ r. ⌜ r ≡ writableFirst (movesIn (now (bytes .entry))) ⌝ }
+{
+    let mut moves = 0;
+    let mut at = 0;
+    while at < bytes.len() {
+        let kind = bytes[at];
+        if !is_writable(kind) {
+            return moves;
+        }
+        moves += 1;
+        at += 5;
+    }
+    moves
+}
+
+// A list replayed from a board, which stays as it is.
+fn play_through(b: Board, bytes: &[u8]) -> Stopped
+    requires { ⌜ Sound b ⌝ }
+    requires { ⌜ length (now bytes) % 5 ≡ 0 ⌝ }
+    ensures { λ r. ⌜ Stops (lineFrom b (recordsIn (now (bytes .entry)))) r ⌝ }
+{
+    let mut cells = b.cells;
+    let mut foundation = b.foundation;
+    let mut counts = b.counts;
+    let mut tableau = b.tableau;
+    replay_to(
+        bytes,
+        &mut cells,
+        &mut foundation,
+        &mut counts,
+        &mut tableau,
+    )
+}
+
+// The first bad move, 43, 21, or the text, on a well formed board.
+fn write_line_at(b: Board, bytes: &[u8], text: &mut [u8]) -> LineAnswer
+    requires { ⌜ Sound b ⌝ }
+    requires { ⌜ isLine (now bytes) ≡ true ⌝ }
+    ensures { λ r. ⌜ Writes b (now (bytes .entry)) (now (text .entry)) (now (text .exit)) r ⌝ }
+{
+    let stopped = play_through(b, bytes);
+    let said = stopped.said;
+    let moves = stopped.moves;
+    if let Examined::Refused(why) = said {
+        return LineAnswer::RefusedAt(why, moves);
+    }
+    let place = first_unwritable(bytes);
+    let all = bytes.len() / 5;
+    if place < all {
+        return LineAnswer::RefusedAt(Refusal::NotWritable, place);
+    }
+    if text.len() < TEXT_ROOM {
+        return LineAnswer::Refused(Refusal::LittleRoom);
+    }
+    let end = write_all(b, bytes, text);
+    LineAnswer::Count(end)
+}
+
+// 12 to 15, 31, the first bad move with its place, 43 with its place, 21, or the text at the front of the room.
+pub fn write_line(b: Board, bytes: &[u8], text: &mut [u8]) -> LineAnswer
+    ensures { λ r. ⌜ Writes b (now (bytes .entry)) (now (text .entry)) (now (text .exit)) r ⌝ }
+{
+    if let Examined::Refused(why) = inspect(&b.cells, &b.foundation, &b.counts, &b.tableau) {
+        return LineAnswer::Refused(why);
+    }
+    if is_line(bytes) {
+        return write_line_at(b, bytes, text);
+    }
+    LineAnswer::Refused(Refusal::WrongList)
 }
