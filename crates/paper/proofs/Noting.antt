@@ -20,7 +20,6 @@ use Rattle.moves.specs.declared.Move.{Move}
 use Rattle.moves.specs.declared.Move.the-variants.{TableauToTableau}
 use Rattle.moves.proofs.Records.{said-from, said-to}
 use Rattle.paper.specs.Meant.{vacant, mostInto, jotOf}
-use Rattle.paper.specs.declared.Jot.{Jot}
 use Rattle.paper.specs.declared.Jot.the-variants.{Between, Counted}
 
 -- ---- cards from column to column

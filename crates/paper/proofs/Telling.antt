@@ -1,13 +1,13 @@
 -- A list written as it is asked for: the refusals in their order, then the text.
-use mathlib.Core.Path.{_≡_, refl, sym, ap, _∙_, subst}
+use mathlib.Core.Path.{_≡_, sym, ap, _∙_}
 use mathlib.Core.Bool.{Bool, true, false}
 use mathlib.Core.List.{List}
 use Prim.Native.Nat.{ℕ, _/_, _<_, _≤_}
 use native.Mathlib.Omega.{arith}
 use borrow.Author.Tests.{eq-eqb, ne-eqb, le-leb, lt-leb, leb-true}
-use lib.Dec.{eqb, leb}
+use lib.Dec.{leb}
 use lib.ListN.{length}
-use Rattle.base.specs.Answer.{refused, unless}
+use Rattle.base.specs.Answer.{unless}
 use Rattle.base.specs.Put.{Puts}
 use Rattle.base.proofs.Putting.{puts-over}
 use Rattle.base.proofs.Words.{first}
@@ -21,12 +21,11 @@ use Rattle.board.specs.declared.Examined.{Examined}
 use Rattle.board.specs.declared.Examined.the-variants.{WellFormed, Refused}
 use Rattle.board.proofs.Soundness.{sound-fine}
 use Rattle.moves.specs.Written.{listRoom}
-use Rattle.replay.specs.Line.{Ending, lineFrom, recordsIn, isLine}
+use Rattle.replay.specs.Line.{lineFrom, recordsIn, isLine}
 use Rattle.replay.specs.declared.Stopped.{Stopped}
 use Rattle.paper.specs.Lines.{Outcome, gives, refuses, refusesAt, checked, textOf, writableFirst}
-use Rattle.paper.specs.Asked.{counted, lineTold, textRoom, movesIn, checkedAt, playedThrough, writtenThrough, writeAsked, textAfter, Writes}
+use Rattle.paper.specs.Asked.{counted, textRoom, movesIn, checkedAt, playedThrough, writtenThrough, writeAsked, textAfter, Writes}
 use Rattle.paper.specs.Inner.{Whole, Stops}
-use Rattle.paper.specs.declared.LineAnswer.{LineAnswer}
 use Rattle.paper.specs.declared.LineAnswer.the-variants as line
 use Rattle.paper.proofs.Reading.{text-long}
 use Rattle.paper.proofs.Looking.{moves-many, writable-upto}

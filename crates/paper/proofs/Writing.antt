@@ -1,17 +1,15 @@
 -- A list written move by move: each on the board that those before it leave, a space before each but the first.
 use mathlib.Core.Path.{_≡_, refl, sym, ap, ap₂, _∙_, subst}
-use mathlib.Core.Bool.{Bool, true, false, cond}
+use mathlib.Core.Bool.{Bool, true, cond}
 use mathlib.Core.List.{List, [], _∷_, _++_, append-assoc, append-nil}
-use Prim.Native.Nat.{ℕ, zero, suc, _+_, _-_, _%_, _<_, _≤_}
+use Prim.Native.Nat.{ℕ, _+_, _-_, _%_, _<_, _≤_}
 use native.Mathlib.Omega.{arith}
 use borrow.Author.Tests.{eq-eqb, ne-eqb}
-use lib.Dec.{eqb}
 use lib.ListN.{length, take, drop, length-append, length-drop, take-append-drop}
 use lib.Seq.{drop-drop}
 use Rattle.base.specs.Answer.{Answer, given, refused, unless}
 use Rattle.base.specs.Put.{Puts}
 use Rattle.base.proofs.Putting.{puts-same, puts-long, puts-room, puts-more}
-use Rattle.base.proofs.Words.{true-or-not}
 use Rattle.board.specs.Verdict.{fine}
 use Rattle.board.specs.Table.{Table}
 use Rattle.board.specs.Record.{shown, boardOf}

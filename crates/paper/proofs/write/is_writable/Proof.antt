@@ -1,6 +1,5 @@
 -- What `is_writable` leaves to be shown: kind by kind.
 use mathlib.Core.Path.{sym, ap, _∙_}
-use mathlib.Core.Bool.{Bool}
 use Prim.Native.Nat.{ℕ}
 use Rattle.moves.specs.Record.{moveSaid}
 use Rattle.paper.specs.Meant.{writable}

@@ -1,5 +1,4 @@
 -- What `run_jot` leaves to be shown: onto other cards, fewer than the most, the most.
-use native.Mathlib.Omega.{arith}
 use Rattle.paper.proofs.Noting.{onto-jot, few-jot, most-jot}
 use borrow.Author.Needs.{needs}
 use Rattle.paper.proofs.write.run_jot.Statement.{statement}
