@@ -11,5 +11,10 @@ pub mod Reading
 pub mod Handing
 pub mod Asking
 pub mod Checking
+pub mod Signing
+pub mod Noting
+pub mod Writing
+pub mod Looking
+pub mod Telling
 pub mod Opened
 pub mod Examples

@@ -6,3 +6,4 @@ pub mod Lines
 pub mod Asked
 pub mod Inner
 pub mod ReadInner
+pub mod WriteInner

@@ -6,6 +6,7 @@ use moves::Move;
 pub mod form;
 pub mod read;
 pub mod sense;
+pub mod write;
 
 // Room for any line: four signs a move, and a space between two.
 pub const TEXT_ROOM: usize = 5 * MOST_MOVES - 1;
