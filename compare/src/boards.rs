@@ -4,6 +4,7 @@ use crate::draws::Draws;
 use crate::original::common::card::{Card, Suit};
 use crate::original::freecell::board::{FreeCellBoard, FreeCellMove};
 use crate::original::freecell::solver::deal;
+use crate::refusals::fits;
 
 pub const KINDS: [&str; 4] = ["deals", "mid-game", "wild", "endgames"];
 
@@ -178,6 +179,31 @@ pub fn made_up(draws: &mut Draws, home: usize, held: usize, most: usize) -> Free
             i = (i + 1) % 8;
         }
         columns[i].push(card);
+    }
+    FreeCellBoard::new(cells, Suit::ALL.map(|s| pile(s, home[s as usize])), columns)
+}
+
+// Long runs and empty columns: the high cards first, nearly each on a column that takes it, or else on an empty one.
+pub fn in_runs(draws: &mut Draws) -> FreeCellBoard {
+    let least = draws.below(13);
+    let home = [0; 4].map(|_| least + draws.below(2));
+    let mut others = shuffled(draws);
+    others.retain(|card| card.value as usize > home[card.suit as usize]);
+    others.sort_by_key(|card| 13 - card.value);
+    let loose = draws.one_of(&[5, 20, 100]);
+    let (mut cells, mut columns): ([Option<Card>; 4], [Vec<Card>; 8]) = Default::default();
+    for card in others {
+        let takes = |column: &&mut Vec<Card>| column.last().is_some_and(|&top| fits(card, top));
+        let empty = columns.iter().position(Vec::is_empty);
+        if draws.once_in(loose) {
+            columns[draws.below(8)].push(card);
+        } else if let Some(column) = columns.iter_mut().find(takes) {
+            column.push(card);
+        } else if cells[0].is_none() && draws.once_in(loose) {
+            cells[0] = Some(card);
+        } else {
+            columns[empty.unwrap_or_else(|| draws.below(8))].push(card);
+        }
     }
     FreeCellBoard::new(cells, Suit::ALL.map(|s| pile(s, home[s as usize])), columns)
 }
