@@ -101,10 +101,10 @@ record Plays (t : Table) (rs : List (List ℕ)) : Type 0 where
   bytes : bytesOf (movesOf rs) ≡ concat rs
 
 -- one record that is played
-record Steps (b c : Board) (r : List ℕ) : Type 0 where
-  can : possible r ≡ true
-  ok : allowed (shown b) (moveOf r) ≡ true
-  board : c ≡ boardOf (afterMove (shown b) (moveOf r))
+pub record Steps (b c : Board) (r : List ℕ) : Type 0 where
+  pub can : possible r ≡ true
+  pub ok : allowed (shown b) (moveOf r) ≡ true
+  pub board : c ≡ boardOf (afterMove (shown b) (moveOf r))
 
 played-steps : (b : Board) (m : Move) {c : Board} → recorded (played (shown b) m) ≡ given c → (allowed (shown b) m ≡ true) × (c ≡ boardOf (afterMove (shown b) m))
 unfolding played
@@ -114,7 +114,7 @@ played-steps b m {c} e = by-ruling (ruling (shown b) m) refl e
     by-ruling (given u) q e = (fine-allowed (shown b) m q, let s : c ≡ boardOf (afterMove (shown b) m) = cc in s)
     by-ruling (refused n) q e = let z : _≡_ {A = ℕ} 0 1 = cc in absurd (let w : ⊥ = omega arith in w)
 
-steps : (b : Board) (r : List ℕ) {c : Board} → stepped b r ≡ given c → Steps b c r
+pub steps : (b : Board) (r : List ℕ) {c : Board} → stepped b r ≡ given c → Steps b c r
 unfolding stepped moveAsked
 steps b r {c} e = by-record (possible r) refl e
   where

@@ -275,11 +275,11 @@ run-some l h =
     let r = leb-true (length l - top) (runLength l) (sym (run-top l top (omega arith)) ∙ run-one l top (omega arith)) in
     omega arith
 
-most-some : (t : Table) (i j : ℕ) → 1 ≤ length (there t (column i)) → 1 ≤ mostInto t i j
+pub most-some : (t : Table) (i j : ℕ) → 1 ≤ length (there t (column i)) → 1 ≤ mostInto t i j
 unfolding mostInto
 most-some t i j h = let r = run-some (there t (column i)) h in let m = most-one (t .cells) (t .columns) j in omega arith
 
-most-run : (t : Table) (i j : ℕ) → mostInto t i j ≤ runLength (there t (column i))
+pub most-run : (t : Table) (i j : ℕ) → mostInto t i j ≤ runLength (there t (column i))
 unfolding mostInto
 most-run t i j = omega arith
 
@@ -292,7 +292,7 @@ fitting-most t i j (suc n) = by-fit (fitFrom t i j (suc n)) (fitting-most t i j 
     by-fit true h = omega arith
     by-fit false h = omega arith
 
-fitting-run : (t : Table) (i j : ℕ) → fitting t i j ≤ runLength (there t (column i))
+pub fitting-run : (t : Table) (i j : ℕ) → fitting t i j ≤ runLength (there t (column i))
 unfolding fitting
 fitting-run t i j = fitting-most t i j (runLength (there t (column i)))
 

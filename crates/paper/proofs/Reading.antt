@@ -40,7 +40,7 @@ most-few : (t : Table) (i j : ℕ) → Fair t → i < 8 → mostInto t i j ≤ 1
 unfolding mostInto
 most-few t i j f h = let r = run-13 (there t (column i)) (fair-cards t (column i) f (lt-ltb i 8 h)) in omega arith
 
-jot-well : (t : Table) (m : Move) → Fair t → sayable m ≡ true → WellMade (jotOf t m)
+pub jot-well : (t : Table) (m : Move) → Fair t → sayable m ≡ true → WellMade (jotOf t m)
 unfolding jotOf
 jot-well t (TableauToTableau s d n c) f e = by-count (vacant t d && ltb n (mostInto t s d)) refl
   where

@@ -41,6 +41,14 @@ or-right false b e = e
 or-left : (a b : Bool) → a ≡ true → (a || b) ≡ true
 or-left a b e = rw e
 
+-- a digit is no sign below 0, and past 9 none below a
+pub digit-range : (x : ℕ) → isDigit x ≡ true → (48 ≤ x) × (57 < x → 97 ≤ x)
+digit-range x e = by-range (within 48 57 x) refl e
+  where
+    by-range : (a : Bool) → within 48 57 x ≡ a → (a || within 97 102 x) ≡ true → (48 ≤ x) × (57 < x → 97 ≤ x)
+    by-range true q f = let w = within-is 48 57 x q in (omega arith, λ h. omega arith)
+    by-range false q f = let w = within-is 97 102 x f in (omega arith, λ h. omega arith)
+
 pub digit-sign : (n : ℕ) → n < 16 → isDigit (digitSign n) ≡ true
 unfolding digitSign
 digit-sign n h = by-size (ltb n 10) refl

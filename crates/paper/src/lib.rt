@@ -1,8 +1,12 @@
 // Lines on paper: moves as players write them, two signs each, read and written.
 use board::Refusal;
 use moves::MOST_MOVES;
+use moves::Move;
 
 pub mod form;
+pub mod read;
+pub mod sense;
+pub mod write;
 
 // Room for any line: four signs a move, and a space between two.
 pub const TEXT_ROOM: usize = 5 * MOST_MOVES - 1;
@@ -63,4 +67,16 @@ pub enum LineAnswer {
     Count(usize),
     Refused(Refusal),
     RefusedAt(Refusal, usize),
+}
+
+// What a written move means on a board, or why it means nothing there.
+pub enum MoveAnswer {
+    Is(Move),
+    Refused(Refusal),
+}
+
+// The written move at a place of a line, and the place of the next; or the text is no line.
+enum Cut {
+    Is(Jot, usize),
+    Wrong,
 }

@@ -1,8 +1,4 @@
 -- What `is_within` leaves to be shown: a sign below the range, and past that test the other decides.
-use mathlib.Core.Path.{ap, sym}
-use mathlib.Core.Bool.{Bool, _&&_}
-use Prim.Native.Nat.{ℕ}
-use lib.Dec.{leb}
 use borrow.Author.Tests.{lt-leb, le-leb}
 use Rattle.paper.specs.Form.{within}
 use Rattle.paper.proofs.form.is_within.Statement.{statement}
