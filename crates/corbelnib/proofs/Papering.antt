@@ -11,7 +11,10 @@ use Rattle.board.specs.declared.Board.{Board}
 use Rattle.moves.specs.declared.Move.{Move}
 use Rattle.paper.specs.Lines.{Outcome, refuses, checked}
 use Rattle.paper.specs.Asked.{counted, lineTold, readAsked, listAfter, Reads, writeAsked, textAfter, Writes}
+use Rattle.board.specs.Refusal.{numberOf}
+use Rattle.board.specs.declared.Refusal.{Refusal}
 use Rattle.paper.specs.declared.LineAnswer.{LineAnswer}
+use Rattle.paper.specs.declared.LineAnswer.the-variants.{Refused, RefusedAt}
 use Rattle.corbelnib.specs.Wire.{boardIn}
 use Rattle.corbelnib.specs.Crossing.{Left, left}
 use Rattle.corbelnib.specs.Papers.{lineAsked, countLeft, withRoom, readBy, writtenBy}
@@ -25,7 +28,15 @@ module _ {A B : Type 0} (f : Outcome A → B) (bytes : List ℕ) (question : Boa
   a-line {b} e h =
       ap (λ (x : Board). f (question x)) e ∙ ap (λ (ok : Bool). f (checked (unless ok 12 fine) (question (boardIn bytes)))) (sym (eq-eqb (length bytes) 432 h))
 
-module _ {b : Board} {a : LineAnswer} {n r m : ℕ} (t : left r m ≡ countLeft (lineTold a) n) where
+-- a refusal tells its number, and its place if it has one
+module _ (n : ℕ) {a : LineAnswer} {why : Refusal} {r : ℕ} (q : r ≡ numberOf why) where
+  pub line-no : a ≡ Refused why → left r n ≡ countLeft (lineTold a) n
+  line-no e = ap (λ (k : ℕ). left k n) q ∙ ap (λ (x : LineAnswer). countLeft (lineTold x) n) (sym e)
+
+  pub line-at : {p : ℕ} → a ≡ RefusedAt why p → left r p ≡ countLeft (lineTold a) n
+  line-at {p} e = ap (λ (k : ℕ). left k p) q ∙ ap (λ (x : LineAnswer). countLeft (lineTold x) n) (sym e)
+
+module _ {b : Board} {a : LineAnswer} (n : ℕ) {r m : ℕ} (t : left r m ≡ countLeft (lineTold a) n) where
   pub reads-left : {text old new : List ℕ} → Reads b text old new a → left r (new, m) ≡ readBy (readAsked b text (length old)) old n
   reads-left {text} {old} {new} k =
       ap₂ withRoom (k .room) (t ∙ ap (λ (o : Outcome ℕ). countLeft o n) (k .told))

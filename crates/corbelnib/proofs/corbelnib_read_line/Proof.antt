@@ -10,7 +10,8 @@ use Rattle.corbelnib.proofs.corbelnib_read_line.Tie as tie
 
 returns : tie.Need-returns
 unfolding lineReadLeft
-returns c = no-line (λ o. readBy o (c .args .list .now) (c .args .count .now)) (c .args .board .now) (λ b. readAsked b (c .args .text .now) (length (c .args .list .now))) (c .if1 .taken)
+returns c = let s = c .before .before .before .before in
+    no-line (λ o. readBy o (s .args .list .now) (s .args .count .now)) (s .args .board .now) (λ b. readAsked b (s .args .text .now) (length (s .args .list .now))) (c .if1 .taken)
 
 board-in-requires : tie.Need-board-in-requires
 board-in-requires c κs = search needs
@@ -26,7 +27,8 @@ same-length c = search needs
 
 returns-2 : tie.Need-returns-2
 unfolding lineReadLeft
-returns-2 c = reads-left (c .line .ensures) (c .read-line .ensures) ∙ a-line (λ o. readBy o (c .args .list .now) (c .args .count .now)) (c .args .board .now) (λ b. readAsked b (c .args .text .now) (length (c .args .list .now))) (c .board-in .ensures) (c .if1 .left)
+returns-2 c = let at-read-line = c .before .before .before .before in let at-board-in = at-read-line .before .before in let at-if1 = at-board-in .before in let s = at-if1 .before .before .before .before in
+    reads-left (s .args .count .now) (c .line .ensures) (at-read-line .read-line .ensures) ∙ a-line (λ o. readBy o (s .args .list .now) (s .args .count .now)) (s .args .board .now) (λ b. readAsked b (s .args .text .now) (length (s .args .list .now))) (at-board-in .board-in .ensures) (at-if1 .if1 .left)
 
 pub corbelnib-read-line-spec : {M : Type 1} → statement M
 corbelnib-read-line-spec =

@@ -10,7 +10,8 @@ use Rattle.corbelnib.proofs.corbelnib_write_line.Tie as tie
 
 returns : tie.Need-returns
 unfolding lineWrittenLeft
-returns c = no-line (λ o. writtenBy o (c .args .text .now) (c .args .count .now)) (c .args .board .now) (λ b. writeAsked b (c .args .list .now) (length (c .args .text .now))) (c .if1 .taken)
+returns c = let s = c .before .before .before .before in
+    no-line (λ o. writtenBy o (s .args .text .now) (s .args .count .now)) (s .args .board .now) (λ b. writeAsked b (s .args .list .now) (length (s .args .text .now))) (c .if1 .taken)
 
 board-in-requires : tie.Need-board-in-requires
 board-in-requires c κs = search needs
@@ -26,7 +27,8 @@ same-length c = search needs
 
 returns-2 : tie.Need-returns-2
 unfolding lineWrittenLeft
-returns-2 c = writes-left (c .line .ensures) (c .write-line .ensures) ∙ a-line (λ o. writtenBy o (c .args .text .now) (c .args .count .now)) (c .args .board .now) (λ b. writeAsked b (c .args .list .now) (length (c .args .text .now))) (c .board-in .ensures) (c .if1 .left)
+returns-2 c = let at-write-line = c .before .before .before .before in let at-board-in = at-write-line .before .before in let at-if1 = at-board-in .before in let s = at-if1 .before .before .before .before in
+    writes-left (s .args .count .now) (c .line .ensures) (at-write-line .write-line .ensures) ∙ a-line (λ o. writtenBy o (s .args .text .now) (s .args .count .now)) (s .args .board .now) (λ b. writeAsked b (s .args .list .now) (length (s .args .text .now))) (at-board-in .board-in .ensures) (at-if1 .if1 .left)
 
 pub corbelnib-write-line-spec : {M : Type 1} → statement M
 corbelnib-write-line-spec =
