@@ -183,26 +183,33 @@ pub fn made_up(draws: &mut Draws, home: usize, held: usize, most: usize) -> Free
     FreeCellBoard::new(cells, Suit::ALL.map(|s| pile(s, home[s as usize])), columns)
 }
 
-// Long runs and empty columns: the high cards first, nearly each on a column that takes it, or else on an empty one.
+// Long runs: the high cards first, nearly each on a column that takes it, or else on an empty one. In one board of three the low
+// cards take the cells and then the empty columns, so that few cards may go at a time; else there are empty places.
 pub fn in_runs(draws: &mut Draws) -> FreeCellBoard {
     let least = draws.below(13);
     let home = [0; 4].map(|_| least + draws.below(2));
     let mut others = shuffled(draws);
     others.retain(|card| card.value as usize > home[card.suit as usize]);
     others.sort_by_key(|card| 13 - card.value);
+    let low = if draws.once_in(3) { 9 } else { 1 };
+    let low = others.split_off(others.len().saturating_sub(low));
     let loose = draws.one_of(&[5, 20, 100]);
-    let (mut cells, mut columns): ([Option<Card>; 4], [Vec<Card>; 8]) = Default::default();
+    let mut columns: [Vec<Card>; 8] = Default::default();
     for card in others {
-        let takes = |column: &&mut Vec<Card>| column.last().is_some_and(|&top| fits(card, top));
+        let takes = |column: &Vec<Card>| column.last().is_some_and(|&top| fits(card, top));
+        let taking = columns.iter().position(takes);
         let empty = columns.iter().position(Vec::is_empty);
-        if draws.once_in(loose) {
-            columns[draws.below(8)].push(card);
-        } else if let Some(column) = columns.iter_mut().find(takes) {
-            column.push(card);
-        } else if cells[0].is_none() && draws.once_in(loose) {
-            cells[0] = Some(card);
-        } else {
-            columns[empty.unwrap_or_else(|| draws.below(8))].push(card);
+        let place = taking.or(empty).filter(|_| !draws.once_in(loose));
+        columns[place.unwrap_or_else(|| draws.below(8))].push(card);
+    }
+    let mut cells = [None; 4];
+    for card in low {
+        match cells.iter_mut().find(|cell| cell.is_none()) {
+            Some(cell) => *cell = Some(card),
+            None => {
+                let empty = columns.iter().position(Vec::is_empty);
+                columns[empty.unwrap_or_else(|| draws.below(8))].push(card);
+            }
         }
     }
     FreeCellBoard::new(cells, Suit::ALL.map(|s| pile(s, home[s as usize])), columns)

@@ -164,6 +164,16 @@ fn long() -> Vec<(Vec<u8>, Paper)> {
     ]
 }
 
+// Texts so long that their places and moves take more than two bytes.
+pub fn longest() -> [Vec<u8>; 2] {
+    let text = to_and_fro(100_000);
+    let wrong = [&text[..], b" x"].concat();
+    let read = |text: &[u8]| papers::read(&codes::bytes(&worked::s()), text, LIST);
+    assert_eq!(read(&text), Alone(31).paper());
+    assert_eq!(read(&wrong), At(42, 300_000).paper());
+    [text, wrong]
+}
+
 // Every text, each with its board. They all are as they were worked out, or this ends here.
 pub fn texts() -> Vec<Asked> {
     let (s, m, f) = (worked::s(), worked::m(), f());

@@ -63,6 +63,11 @@ fn word(text: &[u8]) -> Option<Word> {
     known.then_some(Word { from, to, count })
 }
 
+// The count that a word has.
+pub fn counted(text: &[u8]) -> Option<u8> {
+    word(text)?.count.map(|count| count as u8)
+}
+
 // Every word, whether or not a board has such a move.
 pub fn words() -> Vec<Vec<u8>> {
     let characters = || [&COLUMNS[..], CELLS, &[HOME]].concat();
@@ -70,8 +75,8 @@ pub fn words() -> Vec<Vec<u8>> {
         let pair = move |to| vec![from, to];
         characters().into_iter().map(pair).collect::<Vec<_>>()
     });
-    let counted = |pair: Vec<u8>| DIGITS.map(|digit| [&pair[..], b"v", &[digit]].concat());
-    let all = pairs.flat_map(|pair| [vec![pair.clone()], counted(pair).to_vec()].concat());
+    let with_count = |pair: &[u8]| DIGITS.map(|digit| [pair, b"v", &[digit]].concat());
+    let all = pairs.flat_map(|pair| [&with_count(&pair)[..], &[pair]].concat());
     all.filter(|text| word(text).is_some()).collect()
 }
 

@@ -10,6 +10,7 @@ use crate::original::freecell::board::FreeCellBoard;
 use crate::papers::{self, TEXT};
 use crate::records::Counts;
 use crate::refusals::LIST;
+use crate::worked;
 use std::sync::LazyLock;
 
 // Boards are the four kinds of boards.rs, and such as have long runs and empty columns.
@@ -86,10 +87,9 @@ impl Asking<'_> {
             Ok((list.to_vec(), list.len() / 5)),
             "the second reader"
         );
-        let smaller = text.split(|&c| c == b' ').filter(|word| word.len() == 4);
-        for word in smaller {
-            let digit = format!("v{}", word[3] as char);
-            *self.counts.entry((digit, 0)).or_default() += 1;
+        for count in text.split(|&c| c == b' ').filter_map(papers::counted) {
+            let counts = ("counts written".to_string(), count);
+            *self.counts.entry(counts).or_default() += 1;
         }
         Ok(text)
     }
@@ -148,6 +148,11 @@ impl Asking<'_> {
                 self.read("texts worked out", &codes::bytes(&board), &text, room)?;
             }
         }
+        for text in jotted::longest() {
+            let board = codes::bytes(&worked::s());
+            self.read("texts worked out", &board, &text, LIST)?;
+            self.write("lists worked out", &board, &text, TEXT)?;
+        }
         for (board, list) in jotted::lists() {
             for room in [TEXT - 1, TEXT, TEXT + 1] {
                 self.write("lists worked out", &codes::bytes(&board), &list, room)?;
@@ -187,23 +192,17 @@ fn damaged(draws: &mut Draws, mut text: Vec<u8>) -> Vec<u8> {
     match draws.below(8) {
         0 => {
             let words = (0..1 + draws.below(4)).map(|_| some_word(draws));
-            text = words.collect::<Vec<_>>().join(&b' ');
+            words.collect::<Vec<_>>().join(&b' ')
         }
-        1 | 2 => text = with_words(draws, &text, times),
-        3 => {
-            text = lengthened(draws, &text);
-            if draws.once_in(2) {
+        1 | 2 => with_words(draws, &text, times),
+        3 => lengthened(draws, &text),
+        _ => {
+            for _ in 0..times {
                 damage_text(draws, &mut text);
             }
-        }
-        _ => {}
-    }
-    for _ in 0..times {
-        if draws.once_in(2) {
-            damage_text(draws, &mut text);
+            text
         }
     }
-    text
 }
 
 fn some_word(draws: &mut Draws) -> Vec<u8> {
@@ -240,12 +239,16 @@ fn with_words(draws: &mut Draws, text: &[u8], times: usize) -> Vec<u8> {
     words.join(&b' ')
 }
 
-// The words of a text again and again, up to 200 or a few more or less.
+// The words of a text again and again, up to 200 or a few more or less, and perhaps one character changed.
 fn lengthened(draws: &mut Draws, text: &[u8]) -> Vec<u8> {
     let words: Vec<&[u8]> = text.split(|&c| c == b' ').collect();
     let count = draws.one_of(&[199, 200, 201, 202, 260]);
     let all: Vec<&[u8]> = words.iter().copied().cycle().take(count).collect();
-    all.join(&b' ')
+    let mut text = all.join(&b' ');
+    if draws.once_in(2) {
+        damage_text(draws, &mut text);
+    }
+    text
 }
 
 // One character changed, put in, left out, twice; or the text cut.
