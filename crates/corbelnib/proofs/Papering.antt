@@ -8,15 +8,14 @@ use lib.ListN.{length}
 use Rattle.base.specs.Answer.{unless}
 use Rattle.board.specs.Verdict.{fine}
 use Rattle.board.specs.declared.Board.{Board}
-use Rattle.moves.specs.declared.Move.{Move}
 use Rattle.paper.specs.Lines.{Outcome, refuses, checked}
-use Rattle.paper.specs.Asked.{counted, lineTold, readAsked, listAfter, Reads, writeAsked, textAfter, Writes}
+use Rattle.paper.specs.Asked.{lineTold, readAsked, Reads, writeAsked, Writes}
 use Rattle.board.specs.Refusal.{numberOf}
 use Rattle.board.specs.declared.Refusal.{Refusal}
 use Rattle.paper.specs.declared.LineAnswer.{LineAnswer}
 use Rattle.paper.specs.declared.LineAnswer.the-variants.{Refused, RefusedAt}
 use Rattle.corbelnib.specs.Wire.{boardIn}
-use Rattle.corbelnib.specs.Crossing.{Left, left}
+use Rattle.corbelnib.specs.Crossing.{left}
 use Rattle.corbelnib.specs.Papers.{lineAsked, countLeft, withRoom, readBy, writtenBy}
 
 -- whatever f makes of an outcome, the board's length decides first

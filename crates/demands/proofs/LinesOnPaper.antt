@@ -1,15 +1,14 @@
 -- Request (iv) holds.
 use mathlib.Core.Path.{_≡_, refl, sym, ap, ap₂, _∙_, subst}
-use mathlib.Core.Bool.{Bool, true, false}
+use mathlib.Core.Bool.{Bool}
 use mathlib.Core.List.{List, [], _∷_, _++_}
-use Prim.Native.Nat.{ℕ, suc, _*_, _<_, _≤_}
+use Prim.Native.Nat.{ℕ, _*_, _<_, _≤_}
 use native.Mathlib.Omega.{arith}
 use borrow.Author.Tests.{eq-eqb, eqb-true}
 use lib.Dec.{eqb, leb}
 use lib.ListN.{length, take}
 use lib.Seq.{take-at}
 use Rattle.base.specs.Answer.{unless}
-use Rattle.base.specs.Put.{over}
 use Rattle.base.proofs.Answers.{given-by}
 use Rattle.board.specs.Verdict.{Verdict, fine, after}
 use Rattle.board.specs.Record.{examined, shown}
@@ -17,12 +16,12 @@ use Rattle.board.specs.declared.Board.{Board}
 use Rattle.moves.specs.Written.{listRoom, bytesOf, written}
 use Rattle.moves.specs.declared.Move.{Move}
 use Rattle.moves.proofs.Writing.{bytes-long}
-use Rattle.paper.specs.Form.{lineIn, jots, wrong, Reading}
-use Rattle.paper.specs.Lines.{Outcome, gives, checked, lineRead, textOf}
+use Rattle.paper.specs.Form.{lineIn, jots, wrong}
+use Rattle.paper.specs.Lines.{Outcome, gives, checked, lineRead}
 use Rattle.paper.specs.Lines.{readBy as by-text}
 use Rattle.paper.specs.declared.Jot.{Jot}
 use Rattle.paper.specs.Asked.{counted, readAsked, listAfter, textRoom, movesIn, writeAsked, textAfter}
-use Rattle.paper.proofs.Stopping.{Line, place-within, place-begins, place-blocks}
+use Rattle.paper.proofs.Stopping.{place-within, place-begins, place-blocks}
 use Rattle.paper.proofs.Reading.{text-long}
 use Rattle.paper.proofs.Asking.{checked-gives, wrote, written-read, written-once, read-written}
 use Rattle.corbelnib.specs.Wire.{boardRoom, boardIn}
@@ -30,7 +29,7 @@ use Rattle.corbelnib.specs.Crossing.{Left, left}
 use Rattle.corbelnib.specs.Papers.{lineAsked, countLeft, readBy, writtenBy, lineReadLeft, lineWrittenLeft}
 use Rattle.demands.specs.Calls.{readLine, writeLine, Call}
 use Rattle.demands.specs.Demand1.{ofMoves, refusals}
-use Rattle.demands.specs.LinesOnPaper.{textWritten, recordsRead, Octets, InForm, FirstWrong, LinesOnPaper}
+use Rattle.demands.specs.LinesOnPaper.{textWritten, recordsRead, Octets, FirstWrong, LinesOnPaper}
 use Rattle.demands.proofs.Refusing.{by-test, by-verdict, board-refuses}
 use Rattle.demands.proofs.Crossing.{sized-in}
 use Rattle.demands.proofs.Replaying.{over-first}

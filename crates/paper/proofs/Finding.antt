@@ -8,7 +8,7 @@ use borrow.Author.Tests.{eq-eqb, ne-eqb, le-leb, lt-leb, lt-ltb, le-ltb}
 use lib.Dec.{leb, ltb}
 use lib.ListN.{length, getD}
 use Rattle.base.specs.Words.{listed}
-use Rattle.base.specs.Answer.{Answer, given, refused, unless}
+use Rattle.base.specs.Answer.{given, refused, unless}
 use Rattle.base.proofs.Words.{both, first-fails, second-fails}
 use Rattle.card.specs.Card.{isCard, cardOf}
 use Rattle.card.specs.declared.Card.{Card}
@@ -32,7 +32,7 @@ use Rattle.moves.proofs.Allowing.{last-first}
 use Rattle.play.proofs.Playing.{count-there}
 use Rattle.play.proofs.Tops.{top-empty, some-there, top-card}
 use Rattle.generate.specs.Found.{offered}
-use Rattle.generate.specs.declared.Way.the-variants.{ColumnToColumn, ColumnToHome, ColumnToCell, CellToColumn, CellToHome}
+use Rattle.generate.specs.declared.Way.the-variants.{ColumnToColumn}
 use Rattle.paper.specs.Meant.{vacant, mostInto, fitFrom, fittingIn, fitting, origin, leaves, countGoes, sense, meant}
 use Rattle.paper.specs.declared.Jot.{Jot}
 use Rattle.paper.specs.declared.Jot.the-variants.{Between, Counted, ToCell, ToHome, FromCell, CellHome}

@@ -1,19 +1,19 @@
 -- A line read as it is asked for: the answer, and the lent room, which a refusal leaves as it was.
-use mathlib.Core.Path.{_≡_, refl, sym, ap, ap₂, _∙_, subst}
+use mathlib.Core.Path.{_≡_, refl, sym, ap, _∙_, subst}
 use mathlib.Core.Bool.{Bool}
 use mathlib.Core.List.{List, [], _∷_, _++_}
-use Prim.Native.Nat.{ℕ, zero, suc, _+_, _-_, _*_, _<_, _≤_}
+use Prim.Native.Nat.{ℕ, _+_, _-_, _*_, _<_, _≤_}
 use native.Mathlib.Omega.{arith}
 use borrow.Author.Tests.{le-leb, lt-leb}
 use lib.Dec.{leb}
 use lib.ListN.{length, take, drop}
 use lib.Seq.{take-at}
-use Rattle.base.specs.Answer.{Answer, refused, unless}
+use Rattle.base.specs.Answer.{unless}
 use Rattle.base.specs.Put.{Puts}
 use Rattle.board.specs.Table.{Table}
 use Rattle.board.specs.Verdict.{Verdict, fine, after}
 use Rattle.board.specs.Record.{examined, shown}
-use Rattle.board.specs.Refusal.{numberOf, examinedTold}
+use Rattle.board.specs.Refusal.{examinedTold}
 use Rattle.board.specs.Inner.{Sound}
 use Rattle.board.specs.declared.Board.{Board}
 use Rattle.board.specs.declared.Refusal.{Refusal}

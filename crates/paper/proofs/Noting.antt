@@ -1,20 +1,17 @@
 -- How a move is written on a record: the most cards that go, an empty column, the written move and its text.
 use mathlib.Core.Path.{_≡_, refl, sym, ap, ap₂, _∙_}
 use mathlib.Core.Bool.{Bool, true, false, cond, _&&_}
-use Prim.Native.Nat.{ℕ, min, _<_, _≤_}
+use Prim.Native.Nat.{ℕ, _<_, _≤_}
 use native.Mathlib.Omega.{arith}
 use borrow.Author.Tests.{eq-eqb, ne-eqb, lt-ltb, le-ltb, ltb-true}
 use lib.Dec.{eqb, ltb}
 use lib.ListN.{length, getD}
-use Rattle.base.specs.Words.{listed}
 use Rattle.card.specs.declared.Card.{Card}
-use Rattle.board.specs.Record.{columnAt, shown}
+use Rattle.board.specs.Record.{shown}
 use Rattle.board.specs.Inner.{Sound}
 use Rattle.board.specs.declared.Board.{Board}
 use Rattle.board.proofs.Soundness.{column-length}
 use Rattle.questions.proofs.Asking.{shown-column}
-use Rattle.runs.specs.Run.{runLength}
-use Rattle.rules.specs.Limit.{mostMoved}
 use Rattle.moves.specs.Move.{sayable}
 use Rattle.moves.specs.declared.Move.{Move}
 use Rattle.moves.specs.declared.Move.the-variants.{TableauToTableau}

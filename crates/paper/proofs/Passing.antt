@@ -2,12 +2,12 @@
 use mathlib.Core.Path.{_≡_, refl, sym, ap, ap₂, _∙_, subst}
 use mathlib.Core.Bool.{Bool}
 use mathlib.Core.List.{List, [], _∷_, _++_}
-use Prim.Native.Nat.{ℕ, zero, suc, _+_, _*_, _<_, _≤_}
+use Prim.Native.Nat.{ℕ, suc, _+_, _*_, _<_, _≤_}
 use native.Mathlib.Numerals.{add-one}
 use native.Mathlib.Omega.{arith}
 use borrow.Author.Tests.{le-leb}
 use lib.ListN.{length}
-use Rattle.base.specs.Answer.{Answer, given, refused, unless}
+use Rattle.base.specs.Answer.{Answer, refused, unless}
 use Rattle.board.specs.Table.{Table}
 use Rattle.board.specs.Verdict.{fine}
 use Rattle.board.specs.Record.{shown}
@@ -22,7 +22,7 @@ use Rattle.moves.proofs.Writing.{adds-none, adds-more, adds-long}
 use Rattle.paper.specs.Jot.{WellMade, AllWell}
 use Rattle.paper.specs.Form.{Reading, jots, wrong, lineIn}
 use Rattle.paper.specs.Meant.{meant}
-use Rattle.paper.specs.Lines.{Outcome, gives, refuses, refusesAt, checked, mostMoves, ruled, first, readOn, movesFrom, readBy, lineRead}
+use Rattle.paper.specs.Lines.{Outcome, gives, refusesAt, checked, mostMoves, ruled, first, readOn, movesFrom, readBy, lineRead}
 use Rattle.paper.specs.Asked.{counted}
 use Rattle.paper.specs.ReadInner.{Took, leftIn, CutAt, NoLine, Few, LeftBy, ReadTo}
 use Rattle.paper.specs.declared.Jot.{Jot}

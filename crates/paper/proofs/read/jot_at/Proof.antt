@@ -3,7 +3,7 @@ use mathlib.Core.Path.{sym, _∙_}
 use Prim.Native.Nat.{_-_}
 use native.Mathlib.Omega.{arith}
 use lib.ListN.{length}
-use Rattle.paper.proofs.Cutting.{Cutting, cutting-start, cutting-on, cutting-ends, cutting-stop, cutting-end, cutting-same}
+use Rattle.paper.proofs.Cutting.{Cutting, cutting-start, cutting-on, cutting-ends, cutting-stop, cutting-end}
 use borrow.Author.Needs.{needs}
 use Rattle.paper.proofs.read.jot_at.Statement.{statement}
 use Rattle.paper.proofs.read.jot_at.Tie as tie

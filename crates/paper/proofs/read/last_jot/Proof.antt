@@ -1,7 +1,7 @@
 -- What `last_jot` leaves to be shown: by what is due.
 use mathlib.Core.Path.{_≡_, refl, ap}
 use Prim.Native.Nat.{ℕ}
-use Rattle.paper.specs.Form.{Reading, ending}
+use Rattle.paper.specs.Form.{ending}
 use Rattle.paper.specs.declared.Due.{Due}
 use borrow.Author.Needs.{needs}
 use Rattle.paper.proofs.read.last_jot.Statement.{statement}

@@ -1,5 +1,5 @@
 -- What `read_to` leaves to be shown: move after move, as the line is defined.
-use mathlib.Core.Path.{sym, _∙_}
+use mathlib.Core.Path.{_∙_}
 use Prim.Native.Nat.{_-_}
 use native.Mathlib.Omega.{arith}
 use lib.ListN.{length}

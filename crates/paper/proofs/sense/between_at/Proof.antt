@@ -1,8 +1,7 @@
 -- What `between_at` leaves to be shown: an empty column takes the most, an occupied one what fits.
-use mathlib.Core.Path.{sym, ap, _∙_}
+use mathlib.Core.Path.{_∙_}
 use native.Mathlib.Omega.{arith}
 use Rattle.board.specs.Record.{shown, laid}
-use Rattle.moves.specs.Play.{there}
 use Rattle.moves.specs.declared.Place.the-variants.{Column as column}
 use Rattle.play.proofs.Playing.{count-there}
 use Rattle.paper.proofs.Meaning.{most-some}

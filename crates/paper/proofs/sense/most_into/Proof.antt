@@ -2,7 +2,6 @@
 use mathlib.Core.Path.{_∙_}
 use native.Mathlib.Omega.{arith}
 use Rattle.paper.proofs.Finding.{most-is}
-use borrow.Author.Needs.{needs}
 use Rattle.paper.proofs.sense.most_into.Statement.{statement}
 use Rattle.paper.proofs.sense.most_into.Tie as tie
 

@@ -1,6 +1,5 @@
 -- What `run_move` leaves to be shown: the card is the one that lies there.
 use Rattle.paper.proofs.Finding.{run-is}
-use borrow.Author.Needs.{needs}
 use Rattle.paper.proofs.sense.run_move.Statement.{statement}
 use Rattle.paper.proofs.sense.run_move.Tie as tie
 
