@@ -17,4 +17,5 @@ pub mod Writing
 pub mod Looking
 pub mod Telling
 pub mod Opened
+pub mod Unique
 pub mod Examples

@@ -29,11 +29,6 @@ run-places {m} {s} {d} {n} {c} e said =
     let f = ap sayable (sym e) ∙ said in
     (ltb-true s 8 (said-from (TableauToTableau s d n c) f), ltb-true d 8 (said-to (TableauToTableau s d n c) f))
 
-pub most-lesser : (b : Board) (s d : ℕ) → s < 8 → {most run : ℕ} → most ≡ mostMoved (b .cells) (listed 8 (columnAt (b .counts) (b .tableau))) d
-    → run ≡ runLength (columnAt (b .counts) (b .tableau) s) → min most run ≡ mostInto (shown b) s d
-unfolding mostInto shown
-most-lesser b s d h p q = ap₂ min p (q ∙ ap runLength (shown-column b s h))
-
 module _ {b : Board} (sound : Sound b) (s d n : ℕ) (h : d < 8) (c : Card) where
   lies : vacant (shown b) d ≡ eqb (getD (b .counts) d 0) 0
   unfolding vacant

@@ -20,6 +20,7 @@ ghost use Rattle.paper.specs.WriteInner.{gap, nextText, Next, Notes, Who
 use crate::Jot;
 use crate::LineAnswer;
 use crate::TEXT_ROOM;
+use crate::sense::most_into;
 use base::put::put_bytes;
 use board::Board;
 use board::CODES;
@@ -102,28 +103,6 @@ fn put_jot(text: &mut [u8], at: usize, jot: Jot) -> usize
         }
         Jot::CellHome { cell } => put_pair(text, at, cell_sign(cell), b'h'),
     }
-}
-
-// The most cards that go from a column into an empty one: the lesser of limit and run.
-fn most_into<'a>(
-    cells: &'a [u8; 4],
-    foundation: &'a [u8; 4],
-    counts: &'a [u8; 8],
-    tableau: &'a [u8; CODES],
-    source: usize,
-    destination: usize,
-) -> usize
-    requires { ⌜ Sound (laid (now cells) (now foundation) (now counts) (now tableau)) ⌝ }
-    requires { ⌜ source < 8 ⌝ }
-    requires { ⌜ destination < 8 ⌝ }
-    ensures { λ r. ⌜ r ≡ mostInto (shown (laid (now (cells .entry)) (now (foundation .entry)) (now (counts .entry)) (now (tableau .entry)))) source destination ⌝ }
-{
-    let most = rules::most_at(cells, counts, tableau, destination);
-    let run = rules::run_at(counts, tableau, source);
-    if most < run {
-        return most;
-    }
-    run
 }
 
 // How some cards from column to column are written: `v` and a digit only for fewer than the most into an empty column.
