@@ -14,7 +14,8 @@ static uint8_t line[CORBELNIB_MOVE * STEPS], costs[CORBELNIB_COSTS(NODES)];
 static uint32_t nodes[CORBELNIB_NODES(NODES)];
 static uint64_t heap[CORBELNIB_HEAP(NODES)], keys[CORBELNIB_KEYS(NODES)], features[CORBELNIB_FEATURES], hash;
 static int64_t one, other;
-static size_t count, pops, moves, steps, hand;
+static uint8_t paper[CORBELNIB_TEXT];
+static size_t count, pops, moves, steps, hand, signs;
 
 static void examine(void) { corbelnib_examine(board, sizeof board); }
 static void number(void) { corbelnib_number(hand, after, sizeof after); }
@@ -47,13 +48,21 @@ static void judge(void) {
                     CORBELNIB_KEYS(NODES), costs, CORBELNIB_COSTS(NODES), list, sizeof list, &pops, &moves);
 }
 
+static void write_line(void) {
+    corbelnib_write_line(start, sizeof start, line, CORBELNIB_MOVE * steps, paper, sizeof paper, &signs);
+}
+
+static void read_line(void) {
+    corbelnib_read_line(start, sizeof start, paper, signs, list, sizeof list, &count);
+}
+
 static const struct {
     const char *name;
     void (*call)(void);
 } CALLS[] = {{"judge", judge},         {"candidates", candidates}, {"priority", priority},   {"replay", replay},
              {"move", move},           {"number", number},         {"scores", scores},       {"chain", chain},
              {"features", seven_features}, {"token", token},         {"moves", all_moves},     {"read", read_image},
-             {"signature", signature}, {"examine", examine},       {"deal", deal},           {"capacity", capacity}};
+             {"signature", signature}, {"examine", examine},       {"deal", deal},           {"capacity", capacity},     {"write_line", write_line}, {"read_line", read_line}};
 enum { MANY = sizeof CALLS / sizeof CALLS[0] };
 static size_t most[MANY];
 

@@ -22,7 +22,7 @@
  * below names them all, with a sentence for each; docs/SCOPE.md has the rules of play.
  *
  * Where several hold, the number is the first in the order that the function's paragraph gives. A refusal changes nothing
- * that was lent; the one exception is said at corbelnib_replay. */
+ * that was lent; the exceptions are said at corbelnib_replay, corbelnib_read_line and corbelnib_write_line. */
 #ifndef CORBELNIB_H
 #define CORBELNIB_H
 
@@ -33,11 +33,12 @@
 extern "C" {
 #endif
 
-/* Sizes in bytes: a board, a move, the least list buffer of a search (200 moves), the least room for moves that are listed
- * (836 of them), the least room for a token; and how many features there are. */
+/* Sizes in bytes: a board, a move, the least list buffer (200 moves), the least room for a line on paper, for moves that are listed (836
+ * of them), for a token; and how many features there are. */
 #define CORBELNIB_BOARD 432
 #define CORBELNIB_MOVE 5
 #define CORBELNIB_LIST 1000
+#define CORBELNIB_TEXT 999
 #define CORBELNIB_RECORDS 4180
 #define CORBELNIB_TOKEN 32
 #define CORBELNIB_FEATURES 7
@@ -79,7 +80,11 @@ enum corbelnib_told {
     CORBELNIB_OVER_BUDGET = 20,   /* a budget above 1,000,000 */
     CORBELNIB_LITTLE_ROOM = 21,   /* too little room lent */
     CORBELNIB_NO_NODE = 22,       /* scratch that holds no node */
-    CORBELNIB_WRONG_LIST = 31,    /* a list over 1,000 bytes or not a multiple of 5 */
+    CORBELNIB_WRONG_LIST = 31,    /* a list over 1,000 bytes or not a multiple of 5; a line of over 200 moves */
+
+    /* Lines on paper. */
+    CORBELNIB_WRONG_TEXT = 42,    /* "This is no line of moves." */
+    CORBELNIB_NOT_WRITABLE = 43,  /* "A card that comes back from home cannot be written." */
 
     /* Moves, in the order in which they are looked for. */
     CORBELNIB_OUT_OF_RANGE = 30,  /* "There is no such move.": a record not of five bytes, a kind, place, card or count that no
@@ -97,7 +102,7 @@ enum corbelnib_told {
 /* An answer of corbelnib_judge, and no refusal. */
 #define CORBELNIB_IS_ANSWER(told) ((told) <= CORBELNIB_EXHAUSTED || (told) == CORBELNIB_OUT_OF_NODES)
 
-/* A move is refused (corbelnib_move, corbelnib_replay, corbelnib_priority). */
+/* A move is refused (corbelnib_move, corbelnib_replay, corbelnib_priority, corbelnib_read_line, corbelnib_write_line). */
 #define CORBELNIB_IS_BAD_MOVE(told) \
     ((told) == CORBELNIB_OUT_OF_RANGE || ((told) >= CORBELNIB_SOURCE_EMPTY && (told) <= CORBELNIB_NOT_NEXT))
 
@@ -151,6 +156,24 @@ uint8_t corbelnib_move(const uint8_t *board, size_t board_length, const uint8_t 
  * of the bad move, counted from 0, and `after` the board before it. */
 uint8_t corbelnib_replay(const uint8_t *board, size_t board_length, const uint8_t *list, size_t list_length,
                          uint8_t *after, size_t after_length, size_t *played);
+
+/* Reads a line as players write it on paper and writes the records of its moves to the start of `list`, telling in `*count` how many
+ * there are. Columns are 1 to 8, cells a to d, h is home: `6a` column 6 to cell a, `51` column 5 to column 1, `ah` cell a home. Into an
+ * empty column go as many cards as may; `12v3` says that three go, if more could. Onto an occupied column go as many as fit. One space
+ * stands between two moves and none at either end; the empty text is the line with no moves. Only these characters are read, in lower
+ * case; a newline at the end is a wrong character. Refusals: 12 to 15, 21 if `list` has fewer than 1,000 bytes, 42 for a text that is
+ * no line, 31 past 200 moves, then the number of the first move that cannot be played (30, 33 to 40). `*count` is then, with 42, the
+ * place of the first wrong character (the text's length if it is cut short), with 30 and 33 to 40 the place of the move, both counted
+ * from 0; nothing else is written beside a refusal. */
+uint8_t corbelnib_read_line(const uint8_t *board, size_t board_length, const uint8_t *text, size_t text_length,
+                            uint8_t *list, size_t list_length, size_t *count);
+
+/* Writes a list of moves, five bytes each, as such a line to the start of `text` (no 0 at its end) and tells in `*count` how many bytes
+ * it has, at most 999. Read from the same board it gives the same records. Refusals: 12 to 15, 31, the number of the first bad move (30,
+ * 33 to 40), 43 for a card that goes from a foundation to a column, which the notation cannot say, 21 if `text` has fewer than 999
+ * bytes. With 30, 33 to 40 and 43 `*count` is the place of the move, counted from 0; nothing else is written beside a refusal. */
+uint8_t corbelnib_write_line(const uint8_t *board, size_t board_length, const uint8_t *list, size_t list_length,
+                             uint8_t *text, size_t text_length, size_t *count);
 
 /* Lists the allowed moves of one kind, 1 to 6: their records to the start of `records`, in the judge's order, their number
  * to `*count`; bytes beyond stay. Refusals: 12 to 15, 30 for a kind that is none, 21 if `records` has fewer than 4,180 bytes

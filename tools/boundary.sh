@@ -56,7 +56,7 @@ numbers_in_header() {
 }
 
 names=$(sed -n 's/^pub extern "C" fn corbelnib_\([a-z_]*\)(.*/\1/p' "$code" | sort)
-demand=$(sed -n '/^boundary =/,/^$/p' crates/demands/specs/Calls.antt | tail -n +2 | tr '∷' '\n' | sed 's/[^a-z_]//g' | grep -v '^$' | sort)
+demand=$(sed -n '/^boundary =/,/^$/p' crates/demands/specs/Calls.antt | tail -n +2 | tr '∷' '\n' | sed 's/[A-Z]/_\L&/g; s/[^a-z_]//g' | grep -v '^$' | sort)
 status=0
 apart=$( (in_code; in_header) | sort | uniq -u)
 if [ -n "$apart" ]; then

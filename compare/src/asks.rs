@@ -6,6 +6,7 @@ use crate::draws::Draws;
 use crate::lent::{self, Room, Rubbish, Scratch};
 use crate::original::freecell::solver::Judged;
 use crate::ours;
+use crate::papers::{self, Paper};
 use crate::refusals::{self, Asked};
 use std::fmt::Debug;
 
@@ -78,6 +79,18 @@ fn counted<T: Rubbish + Debug, N: Rubbish + Debug>(
         Err(_) => (&[][..], vec![]),
     };
     left(&format!("{what}, the number told"), count, &number)?;
+    left(what, room, given)?;
+    Ok(came)
+}
+
+// The same where a refusal may tell a place by that number.
+fn placed(what: &str, came: u8, asked: &Paper, room: &Room<u8>, count: &Room<usize>) -> Told {
+    let (number, given, told) = match asked {
+        Ok((given, count)) => (0, &given[..], Some(*count)),
+        Err((number, place)) => (*number, &[][..], *place),
+    };
+    same(what, came, number)?;
+    left(&format!("{what}, the number told"), count, told.as_slice())?;
     left(what, room, given)?;
     Ok(came)
 }
@@ -181,6 +194,23 @@ pub fn token(draws: &mut Draws, board: &[u8], length: usize) -> Told {
     let came = ours::token(board, room.lent(), &mut count.lent()[0]);
     let asked = answers::token(board, length);
     counted("token", came, &asked, &room, &count)
+}
+
+pub fn read_line(draws: &mut Draws, board: &[u8], text: &[u8], length: usize) -> Told {
+    let mut list = Room::new(draws, length);
+    let mut count = lent::number(draws);
+    let came = ours::read_line(board, text, list.lent(), &mut count.lent()[0]);
+    let asked = papers::read(board, text, length);
+    let what = format!("read_line of '{}'", text.escape_ascii());
+    placed(&what, came, &asked, &list, &count)
+}
+
+pub fn write_line(draws: &mut Draws, board: &[u8], list: &[u8], length: usize) -> Told {
+    let mut text = Room::new(draws, length);
+    let mut count = lent::number(draws);
+    let came = ours::write_line(board, list, text.lent(), &mut count.lent()[0]);
+    let asked = papers::write(board, list, length);
+    placed("write_line", came, &asked, &text, &count)
 }
 
 pub fn capacity(lengths: [usize; 4]) -> Told {

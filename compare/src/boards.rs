@@ -4,6 +4,7 @@ use crate::draws::Draws;
 use crate::original::common::card::{Card, Suit};
 use crate::original::freecell::board::{FreeCellBoard, FreeCellMove};
 use crate::original::freecell::solver::deal;
+use crate::refusals::fits;
 
 pub const KINDS: [&str; 4] = ["deals", "mid-game", "wild", "endgames"];
 
@@ -178,6 +179,38 @@ pub fn made_up(draws: &mut Draws, home: usize, held: usize, most: usize) -> Free
             i = (i + 1) % 8;
         }
         columns[i].push(card);
+    }
+    FreeCellBoard::new(cells, Suit::ALL.map(|s| pile(s, home[s as usize])), columns)
+}
+
+// Long runs: the high cards first, nearly each on a column that takes it, or else on an empty one. In one board of three the low
+// cards take the cells and then the empty columns, so that few cards may go at a time; else there are empty places.
+pub fn in_runs(draws: &mut Draws) -> FreeCellBoard {
+    let least = draws.below(13);
+    let home = [0; 4].map(|_| least + draws.below(2));
+    let mut others = shuffled(draws);
+    others.retain(|card| card.value as usize > home[card.suit as usize]);
+    others.sort_by_key(|card| 13 - card.value);
+    let low = if draws.once_in(3) { 9 } else { 1 };
+    let low = others.split_off(others.len().saturating_sub(low));
+    let loose = draws.one_of(&[5, 20, 100]);
+    let mut columns: [Vec<Card>; 8] = Default::default();
+    for card in others {
+        let takes = |column: &Vec<Card>| column.last().is_some_and(|&top| fits(card, top));
+        let taking = columns.iter().position(takes);
+        let empty = columns.iter().position(Vec::is_empty);
+        let place = taking.or(empty).filter(|_| !draws.once_in(loose));
+        columns[place.unwrap_or_else(|| draws.below(8))].push(card);
+    }
+    let mut cells = [None; 4];
+    for card in low {
+        match cells.iter_mut().find(|cell| cell.is_none()) {
+            Some(cell) => *cell = Some(card),
+            None => {
+                let empty = columns.iter().position(Vec::is_empty);
+                columns[empty.unwrap_or_else(|| draws.below(8))].push(card);
+            }
+        }
     }
     FreeCellBoard::new(cells, Suit::ALL.map(|s| pile(s, home[s as usize])), columns)
 }

@@ -124,7 +124,7 @@ fn room(draws: &mut Draws, least: usize) -> usize {
 }
 
 // A board's bytes, in two of three cases damaged once or more.
-fn board(draws: &mut Draws) -> Vec<u8> {
+pub fn board(draws: &mut Draws) -> Vec<u8> {
     let kind = draws.below(4);
     let mut bytes = codes::bytes(&boards::board(draws, kind));
     if draws.once_in(3) {
@@ -274,7 +274,7 @@ fn list(draws: &mut Draws, bytes: &[u8]) -> Vec<u8> {
     records(&played(draws, board, moves, [3, 2, 2, 2, 2, 1]).1)
 }
 
-fn damaged_list(draws: &mut Draws, mut list: Vec<u8>) -> Vec<u8> {
+pub fn damaged_list(draws: &mut Draws, mut list: Vec<u8>) -> Vec<u8> {
     for _ in 0..draws.below(3) {
         if !list.is_empty() {
             let place = draws.below(list.len());

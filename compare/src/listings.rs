@@ -20,7 +20,7 @@ const REFUSED: [u64; 5] = [
     18_446_744_073_709_551_615,
 ];
 
-fn listing(number: usize) -> Result<String> {
+pub fn listing(number: usize) -> Result<String> {
     let number = number.to_string();
     let came = Command::new(LISTER).args(["-t", &number]).output()?;
     if !came.status.success() {
@@ -51,7 +51,7 @@ fn deck(listing: &str) -> Option<Vec<u8>> {
 }
 
 // The deck of a listing, if the second program has the same.
-fn agreed(number: usize, listing: &str) -> Result<Vec<u8>> {
+pub fn agreed(number: usize, listing: &str) -> Result<Vec<u8>> {
     let wrong = |what: &str| Error::other(format!("{what}: number {number}\n{listing}"));
     let deck = deck(listing).ok_or_else(|| wrong("no listing of a hand"))?;
     let second = numbers::deck(number).into_iter().map(codes::code);

@@ -9,23 +9,28 @@ mod damage;
 mod deep;
 mod draws;
 mod gauge;
+mod jotted;
 mod judging;
 mod lent;
 mod listings;
 mod numbers;
 mod oracle_boards;
 mod oracle_moves;
+mod oracle_papers;
 mod oracle_scores;
 mod oracle_signatures;
 mod original;
 mod ours;
+mod papers;
 mod plain;
+mod players;
 mod progress;
 mod records;
 mod refusals;
 mod sample;
 mod sheet;
 mod shrink;
+mod slips;
 mod tasks;
 mod texts;
 mod turned;
@@ -41,8 +46,8 @@ const USAGE: &str = include_str!("../usage.txt");
 
 // What is compared if nothing is selected, each work with the number of its tasks; a task of judge and of long is a board with
 // both flags at each budget. The tasks of deep are the 16 boards of deep-boards.txt, and then climbs. A task of numbers is a
-// hand's number, one of records a board with some forty thousand records.
-const COMPARED: [(&str, usize); 8] = [
+// hand's number, one of records a board with some forty thousand records, one of papers a list and damaged ones.
+const COMPARED: [(&str, usize); 9] = [
     ("boards", 100_000),
     ("records", 200),
     ("judge", 2_000),
@@ -50,12 +55,16 @@ const COMPARED: [(&str, usize); 8] = [
     ("room", 500),
     ("deep", 20),
     ("numbers", 32_000),
+    ("papers", 100_000),
     ("damage", 100_000),
 ];
+// What is compared only if it is selected: with solutions of another program, so many hands of them.
+const OTHERS: [(&str, usize); 1] = [("players", 150)];
 // What writes the gate's samples.
-const WRITTEN: [(&str, usize); 4] = [
+const WRITTEN: [(&str, usize); 5] = [
     ("sample", 40),
     ("calls", 1),
+    ("lines", 1),
     ("oracles", 5),
     ("listings", 1),
 ];
@@ -68,7 +77,7 @@ fn main() {
         ("threads", cores),
         ("steps", 40),
     ];
-    let mut words = words::asked(USAGE, &[&COMPARED[..], &WRITTEN].concat(), &others);
+    let mut words = words::asked(USAGE, &[&COMPARED[..], &OTHERS, &WRITTEN].concat(), &others);
     if words.works.is_empty() {
         words.works.extend(COMPARED.map(|(name, _)| name));
     }

@@ -83,6 +83,24 @@ mod c {
             text_len: usize,
             count: *mut usize,
         ) -> u8;
+        pub fn corbelnib_read_line(
+            board: *const u8,
+            board_len: usize,
+            text: *const u8,
+            text_len: usize,
+            list: *mut u8,
+            list_len: usize,
+            count: *mut usize,
+        ) -> u8;
+        pub fn corbelnib_write_line(
+            board: *const u8,
+            board_len: usize,
+            list: *const u8,
+            list_len: usize,
+            text: *mut u8,
+            text_len: usize,
+            count: *mut usize,
+        ) -> u8;
         pub fn corbelnib_capacity(nodes: usize, heap: usize, keys: usize, costs: usize) -> usize;
         pub fn corbelnib_judge(
             board: *const u8,
@@ -221,6 +239,34 @@ pub fn token(board: &[u8], text: &mut [u8], count: &mut usize) -> u8 {
         c::corbelnib_token(
             board.as_ptr(),
             board.len(),
+            text.as_mut_ptr(),
+            text.len(),
+            count,
+        )
+    }
+}
+
+pub fn read_line(board: &[u8], text: &[u8], list: &mut [u8], count: &mut usize) -> u8 {
+    unsafe {
+        c::corbelnib_read_line(
+            board.as_ptr(),
+            board.len(),
+            text.as_ptr(),
+            text.len(),
+            list.as_mut_ptr(),
+            list.len(),
+            count,
+        )
+    }
+}
+
+pub fn write_line(board: &[u8], list: &[u8], text: &mut [u8], count: &mut usize) -> u8 {
+    unsafe {
+        c::corbelnib_write_line(
+            board.as_ptr(),
+            board.len(),
+            list.as_ptr(),
+            list.len(),
             text.as_mut_ptr(),
             text.len(),
             count,

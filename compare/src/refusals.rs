@@ -226,13 +226,13 @@ fn not_taken(board: &FreeCellBoard, said: Said) -> Option<u8> {
 }
 
 // A card on another one: a value below it, and of the other colour.
-fn fits(card: Card, on: Card) -> bool {
+pub fn fits(card: Card, on: Card) -> bool {
     let is_red = |card: Card| matches!(card.suit, Suit::Diamond | Suit::Heart);
     card.value + 1 == on.value && is_red(card) != is_red(on)
 }
 
 // The most cards that may go to a column; an empty one does not count for itself.
-fn limit(board: &FreeCellBoard, to: usize) -> usize {
+pub fn limit(board: &FreeCellBoard, to: usize) -> usize {
     let cells = board.free_cells.iter().filter(|cell| cell.is_none());
     let others = (0..8).filter(|&column| column != to && board.tableau[column].is_empty());
     (cells.count() + 1) << others.count()

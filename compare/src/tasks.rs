@@ -6,9 +6,12 @@ use crate::original::freecell::board::FreeCellBoard;
 use crate::progress;
 use crate::work::{self, Report, Tally};
 use crate::{
-    boards, calls, codes, damage, deep, judging, plain, records, refusals, sample, shrink,
+    boards, calls, codes, damage, deep, judging, plain, players, records, refusals, sample, shrink,
+    slips,
 };
-use crate::{listings, oracle_boards, oracle_moves, oracle_scores, oracle_signatures, texts};
+use crate::{
+    listings, oracle_boards, oracle_moves, oracle_papers, oracle_scores, oracle_signatures, texts,
+};
 
 pub struct Run {
     pub seed: u64,
@@ -207,6 +210,26 @@ fn on_number(run: &Run, task: usize, tally: &mut Tally) -> Result<(), Report> {
     Ok(())
 }
 
+// A list written and read back, and lists and texts that are damaged.
+fn on_paper(run: &Run, task: usize, tally: &mut Tally) -> Result<(), Report> {
+    let mut draws = run.draws(10, task);
+    let counts = slips::compare(&mut draws, task).map_err(without_board)?;
+    for ((line, number), times) in counts {
+        tally.count(line, format!("{number}:"), times);
+    }
+    Ok(())
+}
+
+// Another program's solution of a hand.
+fn on_player(run: &Run, task: usize, tally: &mut Tally) -> Result<(), Report> {
+    let mut draws = run.draws(11, task);
+    let counts = players::compare(&mut draws, task + 1)?;
+    for (what, times) in counts {
+        tally.count("solutions", format!("{what}:"), times);
+    }
+    Ok(())
+}
+
 // Damaged inputs to a function, until one is refused.
 fn on_damage(run: &Run, task: usize, tally: &mut Tally) -> Result<(), Report> {
     let mut draws = run.draws(4, task);
@@ -260,10 +283,15 @@ pub fn done(run: &Run, name: &'static str, tasks: usize) -> Result<(), Report> {
         "numbers" => work::run(name, all, threads, |task, tally| {
             on_number(run, task, tally)
         }),
+        "papers" => work::run(name, all, threads, |task, tally| on_paper(run, task, tally)),
+        "players" => work::run(name, all, threads, |task, tally| {
+            on_player(run, task, tally)
+        }),
         "damage" => work::run(name, all, threads, |task, tally| {
             on_damage(run, task, tally)
         }),
         "calls" => written(name, || calls::write(run)),
+        "lines" => written(name, || oracle_papers::write(run)),
         "listings" => written(name, listings::write),
         "sample" => written(name, || sample::write(run, tasks)),
         _ => progress::told(name, ORACLES.len(), |progress| {

@@ -139,7 +139,7 @@ fn cards(names: &str) -> Vec<Option<Card>> {
     names.map(|name| card(name.as_bytes())).collect()
 }
 
-fn laid(home: [usize; 4], cells: &str, columns: [&str; 8]) -> FreeCellBoard {
+pub fn laid(home: [usize; 4], cells: &str, columns: [&str; 8]) -> FreeCellBoard {
     let cells = cards(cells).try_into().expect("four cells");
     let columns = columns.map(|column| cards(column).into_iter().flatten().collect());
     let home = Suit::ALL.map(|suit| pile(suit, home[suit as usize]));
@@ -162,6 +162,11 @@ fn on_s() -> Example {
         first: [4, 0, 0, 1, 211],
         given: &ON_S,
     }
+}
+
+// The first of the examples' boards.
+pub fn m() -> FreeCellBoard {
+    on_m().board
 }
 
 // Two cells and a column are empty: three cards may go to that column, six to another.

@@ -3,6 +3,7 @@ pub mod Wiring
 pub mod Crossing
 pub mod Handing
 pub mod Listing
+pub mod Papering
 pub mod Telling
 pub mod Judging
 pub mod Returning

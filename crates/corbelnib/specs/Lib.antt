@@ -3,5 +3,6 @@ pub mod Wire
 pub mod Crossing
 pub mod Boards
 pub mod Lists
+pub mod Papers
 pub mod Values
 pub mod Judged

@@ -6,6 +6,7 @@ ghost use Rattle.solver.specs.Capacity.{capacityOf};
 ghost use Rattle.corbelnib.specs.Crossing.{left, told, asked};
 ghost use Rattle.corbelnib.specs.Boards.{readLeft, dealLeft, numberLeft, moveLeft, replayLeft, chainLeft};
 ghost use Rattle.corbelnib.specs.Lists.{candidatesLeft, movesLeft, tokenLeft};
+ghost use Rattle.corbelnib.specs.Papers.{lineReadLeft, lineWrittenLeft};
 ghost use Rattle.corbelnib.specs.Values.{signatureLeft, priorityLeft, scoresLeft, featuresLeft};
 ghost use Rattle.corbelnib.specs.Judged.{leaves, judgeLeft};
 use board::Examined;
@@ -110,6 +111,45 @@ pub extern "C" fn corbelnib_replay(
     let b = replayed.board;
     let n = replayed.moves;
     hand::line(said, b, n, after, played)
+}
+
+// The records of a line on paper, and their number: 12 to 15, 21, 31; 42 tells the place of the first wrong character, 30 and 33 to 40 that
+// of the move.
+#[no_mangle]
+pub extern "C" fn corbelnib_read_line(
+    board: &[u8],
+    text: &[u8],
+    list: &mut [u8],
+    count: &mut usize,
+) -> u8
+    ensures { λ r. ⌜ left r (now (list .exit), now (count .exit)) ≡ lineReadLeft (now (board .entry)) (now (text .entry)) (now (list .entry)) (now (count .entry)) ⌝ }
+{
+    if board.len() != wire::BYTES {
+        return 12;
+    }
+    tell::line(
+        paper::read::read_line(wire::board_in(board), text, list),
+        count,
+    )
+}
+
+// The text of a list of moves, and the number of its bytes: 12 to 15, 31, 21; 30, 33 to 40 and 43 tell the place of the move.
+#[no_mangle]
+pub extern "C" fn corbelnib_write_line(
+    board: &[u8],
+    list: &[u8],
+    text: &mut [u8],
+    count: &mut usize,
+) -> u8
+    ensures { λ r. ⌜ left r (now (text .exit), now (count .exit)) ≡ lineWrittenLeft (now (board .entry)) (now (list .entry)) (now (text .entry)) (now (count .entry)) ⌝ }
+{
+    if board.len() != wire::BYTES {
+        return 12;
+    }
+    tell::line(
+        paper::write::write_line(wire::board_in(board), list, text),
+        count,
+    )
 }
 
 // The board after the chain of safe moves, and their number: 12 to 15, 21.

@@ -7,10 +7,13 @@ ghost use Rattle.signature.specs.Signed.{signatureTold};
 ghost use Rattle.corbelnib.specs.Crossing.{left, told};
 ghost use Rattle.corbelnib.specs.Judged.{isAnswer};
 ghost use Rattle.corbelnib.specs.Lists.{wayAsked, wayTold};
+ghost use Rattle.corbelnib.specs.Papers.{countLeft};
 ghost use Rattle.corbelnib.specs.Values.{valueLeft};
+ghost use Rattle.paper.specs.Asked.{lineTold};
 use crate::WayAnswer;
 use board::Examined;
 use generate::Way;
+use paper::LineAnswer;
 use questions::CountAnswer;
 use score::ScoreAnswer;
 use signature::SignatureAnswer;
@@ -35,6 +38,23 @@ pub fn count(answer: CountAnswer, to: &mut usize) -> u8
             0
         }
         CountAnswer::Refused(why) => board::number(why),
+    }
+}
+
+// How many moves or bytes a line has, or the place that a refusal tells.
+pub fn line(answer: LineAnswer, to: &mut usize) -> u8
+    ensures { λ r. ⌜ left r (now (to .exit)) ≡ countLeft (lineTold answer) (now (to .entry)) ⌝ }
+{
+    match answer {
+        LineAnswer::Count(n) => {
+            *to = n;
+            0
+        }
+        LineAnswer::Refused(why) => board::number(why),
+        LineAnswer::RefusedAt(why, place) => {
+            *to = place;
+            board::number(why)
+        }
     }
 }
 

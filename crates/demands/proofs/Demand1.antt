@@ -5,20 +5,21 @@ use mathlib.Core.List.{List, [], _∷_, _++_}
 use Prim.Native.Nat.{ℕ}
 use native.Mathlib.Omega.{arith}
 use borrow.Author.Tests.{eqb-true}
-use lib.Dec.{eqb}
+use lib.Dec.{eqb, leb}
 use lib.IntN.{ℤ}
 use lib.ListN.{length, getD}
 use Rattle.base.specs.Answer.{Answer, given, refused, unless}
 use Rattle.base.specs.Words.{all}
 use Rattle.base.proofs.Answers.{given-by}
 use Rattle.board.specs.Table.{Table}
-use Rattle.board.specs.Verdict.{Verdict, after}
+use Rattle.board.specs.Verdict.{Verdict, fine, after}
 use Rattle.board.specs.Record.{examined, shown}
 use Rattle.board.specs.declared.Board.{Board}
 use Rattle.intake.specs.Image.{imageRead}
 use Rattle.intake.specs.Deal.{dealAsked}
 use Rattle.intake.specs.Number.{isNumber, numberAsked}
 use Rattle.moves.specs.Record.{moveAsked}
+use Rattle.moves.specs.Written.{listRoom}
 use Rattle.moves.specs.Causes.{causeNumber}
 use Rattle.moves.specs.declared.Move.{Move}
 use Rattle.replay.specs.Step.{stepped, moveMade}
@@ -33,19 +34,23 @@ use Rattle.score.specs.Asked.{featuresAsked, tokenRoom}
 use Rattle.score.specs.declared.Features.{Features}
 use Rattle.priority.specs.Asked.{priorityBy, priorityAsked}
 use Rattle.candidates.specs.Candidates.{candidates as tried}
+use Rattle.paper.specs.Lines.{gives, checked, lineRead, textOf}
+use Rattle.paper.specs.Asked.{readAsked, listAfter, textRoom, movesIn, playedThrough, writtenThrough, writeAsked, textAfter}
 use Rattle.solver.specs.Told as solver
 use Rattle.solver.proofs.Calls.{answer-clears, T1-none}
 use Rattle.corbelnib.specs.Wire.{boardRoom, boardIn}
 use Rattle.corbelnib.specs.Crossing.{left, told, asked}
 use Rattle.corbelnib.specs.Boards.{boardLeft, readLeft, dealLeft, numberLeft, moveLeft, lineLeft, replayLeft, chained, chainLeft}
 use Rattle.corbelnib.specs.Lists.{listLeft, candidatesLeft, wayAsked, foundBy, movesLeft, textLeft, tokenLeft}
+use Rattle.corbelnib.specs.Papers.{lineReadLeft, lineWrittenLeft}
 use Rattle.corbelnib.specs.Values.{featureRoom, signatureLeft, priorityLeft, scoresLeft, numbersLeft, featuresLeft}
 use Rattle.corbelnib.specs.Judged.{isAnswer}
-use Rattle.demands.specs.Calls.{Entry, examine, read, deal, number, move, replay, chain, moves, candidates, token, priority, scores, signature, features, capacity, judge}
+use Rattle.demands.specs.Calls.{Entry, examine, read, deal, number, move, replay, chain, moves, candidates, token, priority, scores, signature, features, capacity, judge, readLine, writeLine}
 use Rattle.demands.specs.Calls.{boundary, Call, promise}
 use Rattle.demands.specs.Demand1.{isIn, boards, ofMoves, hands, refusals, placeOf, Examined, Cleared, Demand1}
 use Rattle.demands.proofs.Refusing.{Refuses, by-test, asked-refuses, fine-refuses, board-refuses, image-refuses, deck-refuses, step-refuses, priority-refuses, in-moves, in-first, in-second}
 use Rattle.demands.proofs.Crossing.{Keeps, hands-back, refuses, crosses, room-keeps, good-board, asked-good, kept}
+use Rattle.demands.proofs.Papers.{readOutcome, writeOutcome, read-stops, write-stops, line-good, paper-keeps}
 use Rattle.demands.proofs.Searching.{judge-keeps, searching, same-number, answered}
 
 -- ---- which numbers a line of moves ends with: 0, or that of a bad move
@@ -207,6 +212,22 @@ capacity-keeps : (c : Call capacity) → Kept capacity c
 unfolding all
 capacity-keeps c = hands-back refl refl tt
 
+read-line-keeps : (c : Call readLine) → Kept readLine c
+unfolding lineReadLeft readAsked all
+read-line-keeps c =
+    let lent = length (c .before .0) in
+    paper-keeps (refusals readLine) (42 ∷ ofMoves) refl (readOutcome (c .input .0) (c .input .1) lent) (λ o. listAfter o (c .before .0)) (λ n. refl)
+    (read-stops (c .input .0) (c .input .1) lent) (line-good (c .input .0) (λ b. unless (leb listRoom lent) 21 fine) (λ b. lineRead (shown b) (c .input .1)))
+
+write-line-keeps : (c : Call writeLine) → Kept writeLine c
+unfolding lineWrittenLeft writeAsked all
+write-line-keeps c =
+    let list = c .input .1 in
+    let lent = length (c .before .0) in
+    paper-keeps (refusals writeLine) (43 ∷ ofMoves) refl (writeOutcome (c .input .0) list lent) (λ o. textAfter o (c .before .0)) (λ n. refl)
+    (write-stops (c .input .0) list lent)
+    (line-good (c .input .0) (λ b. unless (isLine list) 31 fine) (λ b. playedThrough (lineFrom b (recordsIn list)) (writtenThrough (movesIn list) (checked (unless (leb textRoom lent) 21 fine) (gives (textOf (shown b) (movesIn list)))))))
+
 every-keeps : (e : Entry) (c : Call e) → Kept e c
 every-keeps examine c = examine-keeps c
 every-keeps read c = read-keeps c
@@ -224,6 +245,8 @@ every-keeps signature c = signature-keeps c
 every-keeps features c = features-keep c
 every-keeps capacity c = capacity-keeps c
 every-keeps judge c = judge-keeps c
+every-keeps readLine c = read-line-keeps c
+every-keeps writeLine c = write-line-keeps c
 
 -- ---- the list of them
 
@@ -245,8 +268,10 @@ listed-at signature = refl
 listed-at features = refl
 listed-at capacity = refl
 listed-at judge = refl
+listed-at readLine = refl
+listed-at writeLine = refl
 
-listed-all : length boundary ≡ 16
+listed-all : length boundary ≡ 18
 unfolding boundary
 listed-all = refl
 

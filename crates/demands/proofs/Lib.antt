@@ -1,12 +1,14 @@
--- The three demands hold, `demand1`, `demand2`, `demand3`, and what the requests add: `handsByNumber`, `whyRefused`.
+-- The three demands hold, `demand1`, `demand2`, `demand3`, and what the requests add: `handsByNumber`, `whyRefused`, `linesOnPaper`.
 pub mod Examples
 pub mod Refusing
 pub mod Crossing
 pub mod Searching
 pub mod Hashing
 pub mod Replaying
+pub mod Papers
 pub mod Demand1
 pub mod Demand2
 pub mod Demand3
 pub mod HandsByNumber
 pub mod WhyRefused
+pub mod LinesOnPaper

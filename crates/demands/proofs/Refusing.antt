@@ -115,7 +115,7 @@ module _ (ns : List ℕ) where
   -- ---- moves
 
   module _ (listed : (c : Cause) → isIn (causeNumber c) ns ≡ true) where
-    ruling-refuses : (t : Table) (m : Move) → Refuses (ruling t m)
+    pub ruling-refuses : (t : Table) (m : Move) → Refuses (ruling t m)
     ruling-refuses t m = by (ruling t m) refl
       where
         by : (v : Verdict) → ruling t m ≡ v → Refuses v

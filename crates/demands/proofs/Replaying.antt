@@ -1,5 +1,5 @@
 -- The list that a search brought, given to corbelnib_replay: it ends well, on the board after its last move.
-use mathlib.Core.Path.{_≡_, refl, sym, ap, ap₂, _∙_, subst}
+use mathlib.Core.Path.{_≡_, refl, sym, ap, _∙_, subst}
 use mathlib.Core.Bool.{Bool, true, _||_}
 use mathlib.Core.List.{List, [], _∷_, _++_}
 use Prim.Native.Nat.{ℕ, _*_, _%_, _≤_}
@@ -7,7 +7,7 @@ use native.Mathlib.Omega.{arith}
 use borrow.Author.Tests.{le-leb, leb-true}
 use lib.Dec.{eqb, leb}
 use lib.ListN.{length, take, drop}
-use lib.Seq.{take-at, drop-at}
+use lib.Seq.{take-at}
 use Rattle.base.specs.Answer.{Answer, given, unless}
 use Rattle.board.specs.Table.{Table}
 use Rattle.board.specs.Verdict.{fine}
@@ -19,15 +19,13 @@ use Rattle.board.proofs.Soundness.{sound-shape, sound-sized}
 use Rattle.board.proofs.Records.{shown-of-record}
 use Rattle.board.proofs.Fair.{fair-laid, fair-sound}
 use Rattle.questions.specs.Questions.{wonOn}
-use Rattle.moves.specs.Record.{recordOf}
 use Rattle.moves.specs.declared.Move.{Move}
 use Rattle.replay.specs.Line.{Ending, lineFrom, recordsIn, isLine}
 use Rattle.replay.specs.Played.{afterMoves, recordsOf}
-use Rattle.replay.proofs.Lining.{records-none, records-first}
 use Rattle.replay.proofs.Replaying.{a-line}
-use Rattle.replay.proofs.Legal.{legal-fair}
+use Rattle.replay.proofs.Legal.{legal-fair, records-written}
 use Rattle.moves.specs.Written.{bytesOf}
-use Rattle.moves.proofs.Writing.{record-long, bytes-long}
+use Rattle.moves.proofs.Writing.{bytes-long}
 use Rattle.base.specs.Put.{over}
 use Rattle.solver.specs.Told.{HandsOver}
 use Rattle.solver.proofs.Calls as calls
@@ -44,17 +42,6 @@ use Rattle.demands.proofs.Crossing.{good-asked}
 use Rattle.demands.proofs.Searching.{good-search, searching, same-number, sized}
 
 -- ---- the bytes of a list are its records
-
-records-are : (ms : List Move) → recordsIn (bytesOf ms) ≡ recordsOf ms
-unfolding bytesOf recordsOf
-records-are [] = records-none [] (omega arith)
-records-are (m ∷ ms) =
-    let five = record-long m in
-    let all = bytes-long (m ∷ ms) in
-    records-first (recordOf m ++ bytesOf ms) (omega arith)
-    ∙ ap₂ (λ (r : List ℕ) (rs : List (List ℕ)). r ∷ rs)
-    (take-at (recordOf m) (bytesOf ms) 5 five)
-    (ap recordsIn (drop-at (recordOf m) (bytesOf ms) 5 five) ∙ records-are ms)
 
 is-line : (ms : List Move) → length ms ≤ 200 → isLine (bytesOf ms) ≡ true
 is-line ms h = let l = bytes-long ms in a-line (bytesOf ms) (omega arith) (omega arith)
@@ -135,7 +122,7 @@ module _ (c : Call judge) (r : Call replay) (p : Replays c r) where
       let plays = list-of c (p .brought) .plays in
       ap (λ (l : List ℕ). unless (isLine l) 31 (given (lineFrom b (recordsIn l)))) list
       ∙ ap (λ (ok : Bool). unless ok 31 (given (lineFrom b (recordsIn (bytesOf moved))))) (is-line moved (plays .short))
-      ∙ ap (λ (rs : List (List ℕ)). given (lineFrom b rs)) (records-are moved)
+      ∙ ap (λ (rs : List (List ℕ)). given (lineFrom b rs)) (records-written moved)
       ∙ ap (λ (x : Board). given (lineFrom x (recordsOf moved))) e
       ∙ ap (λ (x : Ending). given x) (plays .replays)
 

@@ -13,6 +13,7 @@ use Rattle.corbelnib.specs.Wire.{boardRoom, boardIn}
 use Rattle.corbelnib.specs.Crossing.{Left, left, told, asked}
 use Rattle.corbelnib.specs.Boards.{readLeft, dealLeft, numberLeft, moveLeft, replayLeft, chainLeft}
 use Rattle.corbelnib.specs.Lists.{movesLeft, candidatesLeft, tokenLeft}
+use Rattle.corbelnib.specs.Papers.{lineReadLeft, lineWrittenLeft}
 use Rattle.corbelnib.specs.Values.{priorityLeft, scoresLeft, signatureLeft, featuresLeft}
 use Rattle.corbelnib.specs.Judged.{judgeLeft}
 
@@ -34,11 +35,13 @@ pub data Entry : Type 0 where
   features : Entry
   capacity : Entry
   judge : Entry
+  readLine : Entry
+  writeLine : Entry
 
 -- all of them (tools/boundary.sh holds this list against the code and the header)
 unfoldable pub boundary : List Entry
 boundary =
-    examine ∷ read ∷ deal ∷ number ∷ move ∷ replay ∷ chain ∷ moves ∷ candidates ∷ token ∷ priority ∷ scores ∷ signature ∷ features ∷ capacity ∷ judge ∷ []
+    examine ∷ read ∷ deal ∷ number ∷ move ∷ replay ∷ chain ∷ moves ∷ candidates ∷ token ∷ priority ∷ scores ∷ signature ∷ features ∷ capacity ∷ judge ∷ readLine ∷ writeLine ∷ []
 
 -- ---- what goes in, and what is lent
 
@@ -58,7 +61,7 @@ pub record Lent : Type 0 where
   pub pops : ℕ
   pub moves : ℕ
 
--- a board, an image or a deck; a number; a board and a record or a list; a board and a kind; four lengths; a question
+-- a board, an image or a deck; a number; a board and a record, a list or a text; a board and a kind; four lengths; a question
 abbrev pub In : Entry → Type 0
 In examine = List ℕ
 In read = List ℕ
@@ -76,6 +79,8 @@ In signature = List ℕ
 In features = List ℕ
 In capacity = ℕ × (ℕ × (ℕ × ℕ))
 In judge = Question
+In readLine = List ℕ × List ℕ
+In writeLine = List ℕ × List ℕ
 
 -- nothing; room; room and the place of a count; places of scores or of a signature; the search's
 abbrev pub Places : Entry → Type 0
@@ -95,6 +100,8 @@ Places signature = ℕ
 Places features = List ℕ
 Places capacity = Unit {0}
 Places judge = Lent
+Places readLine = List ℕ × ℕ
+Places writeLine = List ℕ × ℕ
 
 -- ---- what each function promises in crates/corbelnib/src/lib.rt: its number and every lent place, from what went in and what lay there
 
@@ -120,6 +127,8 @@ promise features board room = featuresLeft board room
 promise capacity i u = left (capacityOf (i .0) (i .1 .0) (i .1 .1 .0) (i .1 .1 .1)) u
 promise judge q l =
     searchLeft (judgeLeft (l .nodes) (l .heap) (l .keys) (l .costs) (l .list) (l .pops) (l .moves) (q .board) (q .budget) (q .partial))
+promise readLine i l = lineReadLeft (i .0) (i .1) (l .0) (l .1)
+promise writeLine i l = lineWrittenLeft (i .0) (i .1) (l .0) (l .1)
 
 -- one call, with its promise
 pub record Call (e : Entry) : Type 0 where

@@ -14,7 +14,7 @@ use Rattle.intake.specs.Deal.{dealAsked}
 use Rattle.intake.specs.Number.{isNumber}
 use Rattle.base.specs.Blank.{blank}
 use Rattle.corbelnib.specs.Judged.{isAnswer}
-use Rattle.demands.specs.Calls.{Entry, examine, read, deal, number, move, replay, chain, moves, candidates, token, priority, scores, signature, features, capacity, judge}
+use Rattle.demands.specs.Calls.{Entry, examine, read, deal, number, move, replay, chain, moves, candidates, token, priority, scores, signature, features, capacity, judge, readLine, writeLine}
 use Rattle.demands.specs.Calls.{boundary, Call, GoodBoard, capacityIn}
 use Rattle.moves.specs.Written.{listRoom}
 use Rattle.solver.specs.Searched.{mostPops}
@@ -51,9 +51,12 @@ refusals signature = boards
 refusals features = boards ++ (21 ∷ [])
 refusals capacity = []
 refusals judge = boards ++ (20 ∷ 21 ∷ 22 ∷ [])
+refusals readLine = boards ++ (21 ∷ 31 ∷ [])
+refusals writeLine = boards ++ (31 ∷ 21 ∷ [])
 
 -- the numbers with which a function hands something back. A replay that meets a bad move (30, 33 to 40) tells its place
--- and the board before it; a search without node room (23) tells its pops.
+-- and the board before it; a search without node room (23) tells its pops; a line on paper tells the place of a wrong character (42), of a
+-- move that has no notation (43) or of a bad move, and leaves the rest of what was lent (LinesOnPaper.antt).
 abbrev pub hands : Entry → ℕ → Bool
 hands examine n = eqb n 0
 hands read n = eqb n 0
@@ -71,6 +74,8 @@ hands signature n = eqb n 0
 hands features n = eqb n 0
 hands capacity n = true
 hands judge n = isAnswer n
+hands readLine n = eqb n 0 || isIn n (42 ∷ ofMoves)
+hands writeLine n = eqb n 0 || isIn n (43 ∷ ofMoves)
 
 -- ---- what a function must have found when it hands something back
 
@@ -106,6 +111,8 @@ Examined signature c = GoodBoard (c .input)
 Examined features c = GoodBoard (c .input)
 Examined capacity c = Unit {0}
 Examined judge c = GoodSearch c
+Examined readLine c = GoodBoard (c .input .0)
+Examined writeLine c = GoodBoard (c .input .0)
 
 -- ---- how a call ends
 
@@ -121,7 +128,7 @@ pub record Cleared (c : Call judge) : Type 0 where
   pub keys : c .after .keys ≡ blank (c .before .keys)
   pub costs : c .after .costs ≡ blank (c .before .costs)
 
--- which of the sixteen a function is
+-- which of the eighteen a function is
 abbrev pub placeOf : Entry → ℕ
 placeOf examine = 0
 placeOf read = 1
@@ -139,13 +146,15 @@ placeOf signature = 12
 placeOf features = 13
 placeOf capacity = 14
 placeOf judge = 15
+placeOf readLine = 16
+placeOf writeLine = 17
 
 pub record Demand1 : Type 0 where
   -- "Nothing traps, nothing runs on. No board image, deck, move, list, budget or lent memory makes it trap": whatever goes in and
   -- whatever lies in the lent places, there is one end
   pub oneEnd : {e : Entry} (x y : Call e) → x .input ≡ y .input → x .before ≡ y .before → SameEnd x y
-  -- "Every entry point ..": these sixteen
-  pub many : length boundary ≡ 16
+  -- "Every entry point ..": these eighteen
+  pub many : length boundary ≡ 18
   pub all : (e : Entry) → getD boundary (placeOf e) judge ≡ e
   -- ".. examines what it gets": a function that hands something back was given what SCOPE.md asks for
   pub examines : {e : Entry} (c : Call e) → hands e (c .number) ≡ true → Examined e c

@@ -1,9 +1,11 @@
 -- A legal list of moves keeps a well-formed table and its cards, and replaying its records plays it.
-use mathlib.Core.Path.{_≡_, refl, sym, ap, _∙_, subst}
+use mathlib.Core.Path.{_≡_, refl, sym, ap, ap₂, _∙_, subst}
 use mathlib.Core.Bool.{true}
 use mathlib.Core.List.{List, [], _∷_, _++_}
 use Prim.Native.Nat.{ℕ, suc}
-use lib.ListN.{length}
+use native.Mathlib.Omega.{arith}
+use lib.ListN.{length, length-append}
+use lib.Seq.{take-at, drop-at}
 use Rattle.base.specs.Words.{occurs}
 use Rattle.base.specs.Answer.{Answer, given}
 use Rattle.board.specs.Table.{Table, cardsOn}
@@ -17,13 +19,16 @@ use Rattle.board.proofs.Fair.{fair-laid}
 use Rattle.moves.specs.Move.{sayable}
 use Rattle.moves.specs.Record.{recordOf}
 use Rattle.moves.specs.Play.{allowed, afterMove}
+use Rattle.moves.specs.Written.{bytesOf}
 use Rattle.moves.specs.declared.Move.{Move}
+use Rattle.moves.proofs.Writing.{record-long}
 use Rattle.moves.proofs.Saying.{asked-said}
 use Rattle.moves.proofs.Allowing.{allowed-keeps}
 use Rattle.moves.proofs.Fairness.{fair-after}
 use Rattle.replay.specs.Step.{playedOn, stepped}
-use Rattle.replay.specs.Line.{oneMore, goOn, lineFrom}
+use Rattle.replay.specs.Line.{oneMore, goOn, lineFrom, recordsIn}
 use Rattle.replay.specs.Played.{afterMoves, Legal, recordsOf}
+use Rattle.replay.proofs.Lining.{records-none, records-first}
 use Rattle.replay.proofs.Stepping.{made-yes, sound-after, fair-then}
 
 -- ---- a move, and a list after a list
@@ -58,6 +63,18 @@ unfolding afterMoves
 legal-cards [] t f l x = refl
 legal-cards (m ∷ ms) t f l x =
     legal-cards ms (afterMove t m) (fair-after t m f (l .0) (l .1 .0)) (l .1 .1) x ∙ allowed-keeps t m (f .seats) (l .0) (l .1 .0) x
+
+-- ---- its records
+
+pub records-written : (ms : List Move) → recordsIn (bytesOf ms) ≡ recordsOf ms
+unfolding bytesOf recordsOf
+records-written [] = records-none [] (omega arith)
+records-written (m ∷ ms) =
+    let r = record-long m in
+    let l = length-append (recordOf m) (bytesOf ms) in
+    records-first (recordOf m ++ bytesOf ms) (omega arith)
+    ∙ ap₂ (λ (s t : List ℕ). s ∷ recordsIn t) (take-at (recordOf m) (bytesOf ms) 5 r) (drop-at (recordOf m) (bytesOf ms) 5 r)
+    ∙ ap (λ (rs : List (List ℕ)). recordOf m ∷ rs) (records-written ms)
 
 -- ---- its records replayed
 
