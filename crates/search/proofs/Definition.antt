@@ -104,3 +104,22 @@ first-best = refl
 pub none-better : solve (walk ([] ∷ (to 2 ∷ []) ∷ []) []) 1 1 9 true ≡ record { number = 3; list = none; pops = 1 }
 unfolding opened
 none-better = refl
+
+-- ---- a best line that finishes, and is lost: 4 is won, found at cost 2; its like, 9, which is not, is found at cost 1 after it, so that 4 is
+-- skipped when it is taken
+
+abbrev blurred : Game
+blurred = walk ((far 4 2 ∷ to 9 ∷ []) ∷ []) []
+
+pub finishing : solve blurred 0 1 9 true ≡ record { number = 5; list = some (replicate 2 (far 4 2)); pops = 1 }
+unfolding opened
+finishing = refl
+
+pub finishing-lost : solve blurred 0 9 9 true ≡ record { number = 2; list = some (replicate 2 (far 4 2)); pops = 3 }
+unfolding opened
+finishing-lost = refl
+
+-- the flag alone brings it
+pub finishing-unasked : solve blurred 0 1 9 false ≡ record { number = 3; list = none; pops = 1 }
+unfolding opened
+finishing-unasked = refl

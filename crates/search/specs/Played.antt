@@ -1,6 +1,6 @@
 -- What theorem T1 (proofs/Judge.antt) claims of a list that FreeCell's search answers with.
 use mathlib.Core.Path.{_≡_}
-use mathlib.Core.Bool.{true}
+use mathlib.Core.Bool.{true, false}
 use mathlib.Core.List.{List}
 use Prim.Native.Nat.{ℕ, _<_, _≤_}
 use lib.IntN.{ℤ}
@@ -27,8 +27,10 @@ pub record PlayedOut (b : Board) (number : ℕ) (l : List Move) : Type 0 where
   -- the table after it has the same cards, each of the 52 once
   pub cards : (x : ℕ) → occurs x (cardsOn (afterMoves (shown b) l)) ≡ occurs x (cardsOn (shown b))
   pub pack : (k : ℕ) → k < 52 → occurs (cardAt k) (cardsOn (afterMoves (shown b) l)) ≡ 1
-  -- 0 means that it is won
+  -- 0 and 5 mean that the table after it is won, 1 that it is not
   pub wins : number ≡ 0 → wonOn (afterMoves (shown b) l .foundation) ≡ true
+  pub finishes : number ≡ 5 → wonOn (afterMoves (shown b) l .foundation) ≡ true
+  pub unfinished : number ≡ 1 → wonOn (afterMoves (shown b) l .foundation) ≡ false
 
 -- demand 3's final score: the progress score of the last board of a list
 unfoldable pub finalScore : Table → List Move → ℤ
