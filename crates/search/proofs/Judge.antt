@@ -23,7 +23,7 @@ use Rattle.score.proofs.Keys.{progress-order}
 use Rattle.search.specs.Solve.{some, none, State, limit, start, run}
 use Rattle.search.specs.Freecell.{freecell, judge}
 use Rattle.search.specs.Claims.{isSome, bringsList, isBestAtLimit, isBest, isLimit, OutOfNodes, Follows, Struck, Borne, Becomes}
-use Rattle.search.specs.Played.{PlayedOut, finalScore}
+use Rattle.search.specs.Played.{endsWon, PlayedOut, finalScore}
 use Rattle.search.proofs.Numbers.{limit-said}
 use Rattle.search.proofs.Ruled.{Reaches, freecell-laws}
 use Rattle.search.proofs.Signed.{fair-bounded}
@@ -61,7 +61,7 @@ module _ (b : Board) (s : Sound b) (budget capacity : ℕ) (partial : Bool) (l :
         unfinished = λ z. last (r .leads .there) ∙ r .unfinished z;
       }
     where
-      last : {u : Table} → afterMoves (shown b) l ≡ u → wonOn (afterMoves (shown b) l .foundation) ≡ wonOn (u .foundation)
+      last : {u : Table} → afterMoves (shown b) l ≡ u → endsWon (shown b) l ≡ wonOn (u .foundation)
       last e = ap (λ (t : Table). wonOn (t .foundation)) e
 
 -- answers 0, 1, 2 and 5 bring a list, the others none
@@ -154,20 +154,25 @@ T4-same-state t pops c d u v e f = one.same-state freecell pops c d (start freec
 
 -- ---- T5: a best line that finishes
 
+-- where the limit strikes with a list, it is told by 1 or 5
+pub T5-called : (t : Table) (budget capacity : ℕ) (partial : Bool) → Struck freecell t budget capacity partial → isBestAtLimit (judge t budget capacity partial .number)
+unfolding judge
+T5-called t budget capacity partial r =
+    limit-said (freecell .won (r .state .best .board)) (sym (finishing.called freecell t budget capacity partial r))
+
 module _ (b : Board) (s : Sound b) (budget capacity : ℕ) (partial : Bool) (l : List Move) (e : judge (shown b) budget capacity partial .list ≡ some l) where
   -- 5 is given where 1 was in document 01 and the last board of the list is won ..
-  pub T5-then : Struck freecell (shown b) budget capacity partial → wonOn (afterMoves (shown b) l .foundation) ≡ true
+  pub T5-then : Struck freecell (shown b) budget capacity partial → endsWon (shown b) l ≡ true
       → judge (shown b) budget capacity partial .number ≡ 5
-  unfolding judge
-  T5-then r w = by (limit-said (freecell .won (r .state .best .board)) (sym (finishing.called freecell (shown b) budget capacity partial r)))
+  T5-then r w = by (T5-called (shown b) budget capacity partial r)
     where
       by : isBestAtLimit (judge (shown b) budget capacity partial .number) → judge (shown b) budget capacity partial .number ≡ 5
-      by (inl q) = true-or-not (wonOn (afterMoves (shown b) l .foundation)) w (T1 b s budget capacity partial l e .unfinished q)
+      by (inl q) = true-or-not (endsWon (shown b) l) w (T1 b s budget capacity partial l e .unfinished q)
       by (inr q) = q
 
   -- .. and only there
   pub T5-only : judge (shown b) budget capacity partial .number ≡ 5
-      → Struck freecell (shown b) budget capacity partial × (wonOn (afterMoves (shown b) l .foundation) ≡ true)
+      → Struck freecell (shown b) budget capacity partial × (endsWon (shown b) l ≡ true)
   unfolding judge
   T5-only q = (finishing.struck freecell (shown b) budget capacity partial (inr q), T1 b s budget capacity partial l e .finishes q)
 
