@@ -34,6 +34,7 @@ use Rattle.score.specs.declared.Features.{Features}
 use Rattle.priority.specs.Asked.{priorityBy, priorityAsked}
 use Rattle.candidates.specs.Candidates.{candidates as tried}
 use Rattle.solver.specs.Told as solver
+use Rattle.search.specs.Claims.{bringsList}
 use Rattle.solver.proofs.Calls.{answer-clears, T1-none}
 use Rattle.corbelnib.specs.Wire.{boardRoom, boardIn}
 use Rattle.corbelnib.specs.Crossing.{left, told, asked}
@@ -263,7 +264,7 @@ module _ (c : Call judge) (a : isAnswer (c .number) ≡ true) where
   unfolding searching
   list-stays e =
       let n = same-number c (c .input .board) refl a in
-      T1-none (searching c (c .input .board) refl a) (omega arith) .same
+      T1-none (searching c (c .input .board) refl a) (ap bringsList (n ∙ e)) .same
 
 same-end : {e : Entry} (x y : Call e) → x .input ≡ y .input → x .before ≡ y .before → left (x .number) (x .after) ≡ left (y .number) (y .after)
 same-end {e} x y p q = x .keeps ∙ ap₂ (promise e) p q ∙ sym (y .keeps)

@@ -12,7 +12,7 @@ use Rattle.base.proofs.Words.{true-or-not, first}
 use Rattle.search.specs.Game.{Game, Laws, among}
 use Rattle.search.specs.Solve.{Perhaps, some, Node, State, Grown, outOfNodes, grown, End, won, limit, exhausted, outOfNodesAt, Turn, over, again, Answer}
 use Rattle.search.specs.Solve.{MAX_DEPTH, atLimit, whenExhausted, bestExhausted, bestSaid, cost, differs, before, queued, learned, better, start, childOf, dropped, bearing, noRoom, bornAs, bear, thenGrow, expand, grownTurn, visitAs, visit, taken, onward, stopped, goOn, run, brings, bestAtLimit, progressed, answer, solveAs, solve}
-use Rattle.search.specs.Claims.{isBestAtLimit, Expanded, Struck, BornAmong, Borne, Clash, Becomes, wonThen, still, noRoomThen, exhaustedThen}
+use Rattle.search.specs.Claims.{isBestAtLimit, Expanded, Struck, bestOf, BornAmong, Borne, Clash, Becomes, wonThen, still, noRoomThen, exhaustedThen}
 use Rattle.search.proofs.Numbers.{said-won, not-at-limit}
 use Rattle.search.proofs.Kept.{EndKept, kept}
 use Rattle.search.proofs.Later.{goes-on}
@@ -308,14 +308,13 @@ module _ (G : Game) (self : (b : G .Board) → G .same b b ≡ true) (Born : Nod
 -- ---- when it is answered
 
 module _ (G : Game) (b : G .Board) (budget capacity : ℕ) (partial : Bool) where
-  -- where the limit strikes with a list, its number says whether the last board is won
-  pub called : (r : Struck G b budget capacity partial)
-      → solve G b budget capacity partial .number ≡ bestSaid (G .won (r .state .best .board))
+  -- where the limit strikes with a list, the answer is the best line, and its number says whether the last board is won
+  pub called : (r : Struck G b budget capacity partial) → solve G b budget capacity partial ≡ bestOf G (r .state)
   unfolding solve
   called r =
-      ap (λ (w : Bool). solveAs G w b budget capacity partial .number) (r .unwon)
-      ∙ ap (λ (e : End G). answer G partial e .number) (r .came)
-      ∙ ap (λ (t : Bool). progressed G t (bestAtLimit G (r .state)) atLimit (r .state) .number) (r .brought)
+      ap (λ (w : Bool). solveAs G w b budget capacity partial) (r .unwon)
+      ∙ ap (answer G partial) (r .came)
+      ∙ ap (λ (t : Bool). progressed G t (bestAtLimit G (r .state)) atLimit (r .state)) (r .brought)
 
   two-or-four : {A : Type 0} (t : Bool) (s : State G) → isBestAtLimit (progressed G t bestExhausted whenExhausted s .number) → A
   two-or-four true s e = absurd (not-at-limit {n = 2} (λ z. omega arith) (λ z. omega arith) e)

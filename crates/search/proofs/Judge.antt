@@ -20,9 +20,9 @@ use Rattle.replay.proofs.Legal.{legal-fair, legal-cards, line-legal}
 use Rattle.score.specs.Features.{Bounded, featuresOf}
 use Rattle.score.specs.Scores.{progressKey}
 use Rattle.score.proofs.Keys.{progress-order}
-use Rattle.search.specs.Solve.{some, none, State, limit, start, run}
+use Rattle.search.specs.Solve.{some, none, State, Answer, limit, start, run}
 use Rattle.search.specs.Freecell.{freecell, judge}
-use Rattle.search.specs.Claims.{isSome, bringsList, isBestAtLimit, isBest, isLimit, OutOfNodes, Follows, Struck, Borne, Becomes}
+use Rattle.search.specs.Claims.{isSome, bringsList, isBestAtLimit, isBest, isLimit, OutOfNodes, Follows, Struck, bestOf, Borne, Becomes}
 use Rattle.search.specs.Played.{endsWon, PlayedOut, finalScore}
 use Rattle.search.proofs.Numbers.{limit-said}
 use Rattle.search.proofs.Ruled.{Reaches, freecell-laws}
@@ -154,27 +154,34 @@ T4-same-state t pops c d u v e f = one.same-state freecell pops c d (start freec
 
 -- ---- T5: a best line that finishes
 
--- where the limit strikes with a list, it is told by 1 or 5
-pub T5-called : (t : Table) (budget capacity : ℕ) (partial : Bool) → Struck freecell t budget capacity partial → isBestAtLimit (judge t budget capacity partial .number)
+-- where document 01 gives 1, the answer brings the best line, and is called 5 if that ends won, else 1
+pub T5-called : (t : Table) (budget capacity : ℕ) (partial : Bool) (r : Struck freecell t budget capacity partial)
+    → judge t budget capacity partial ≡ bestOf freecell (r .state)
 unfolding judge
-T5-called t budget capacity partial r =
-    limit-said (freecell .won (r .state .best .board)) (sym (finishing.called freecell t budget capacity partial r))
+T5-called t budget capacity partial r = finishing.called freecell t budget capacity partial r
+
+pub T5-brings : (t : Table) (budget capacity : ℕ) (partial : Bool) → Struck freecell t budget capacity partial → isBestAtLimit (judge t budget capacity partial .number)
+T5-brings t budget capacity partial r =
+    limit-said (freecell .won (r .state .best .board)) (sym (ap (λ (a : Answer freecell). a .number) (T5-called t budget capacity partial r)))
+
+-- and 1 and 5 are given only there
+pub T5-struck : (t : Table) (budget capacity : ℕ) (partial : Bool) → isBestAtLimit (judge t budget capacity partial .number) → Struck freecell t budget capacity partial
+unfolding judge
+T5-struck t budget capacity partial e = finishing.struck freecell t budget capacity partial e
 
 module _ (b : Board) (s : Sound b) (budget capacity : ℕ) (partial : Bool) (l : List Move) (e : judge (shown b) budget capacity partial .list ≡ some l) where
   -- 5 is given where 1 was in document 01 and the last board of the list is won ..
   pub T5-then : Struck freecell (shown b) budget capacity partial → endsWon (shown b) l ≡ true
       → judge (shown b) budget capacity partial .number ≡ 5
-  T5-then r w = by (T5-called (shown b) budget capacity partial r)
+  T5-then r w = by (T5-brings (shown b) budget capacity partial r)
     where
       by : isBestAtLimit (judge (shown b) budget capacity partial .number) → judge (shown b) budget capacity partial .number ≡ 5
       by (inl q) = true-or-not (endsWon (shown b) l) w (T1 b s budget capacity partial l e .unfinished q)
       by (inr q) = q
 
   -- .. and only there
-  pub T5-only : judge (shown b) budget capacity partial .number ≡ 5
-      → Struck freecell (shown b) budget capacity partial × (endsWon (shown b) l ≡ true)
-  unfolding judge
-  T5-only q = (finishing.struck freecell (shown b) budget capacity partial (inr q), T1 b s budget capacity partial l e .finishes q)
+  pub T5-only : judge (shown b) budget capacity partial .number ≡ 5 → Struck freecell (shown b) budget capacity partial × (endsWon (shown b) l ≡ true)
+  T5-only q = (T5-struck (shown b) budget capacity partial (inr q), T1 b s budget capacity partial l e .finishes q)
 
 -- 1 and 5 are given with the flag alone
 pub T5-flag : (t : Table) (budget capacity : ℕ) (partial : Bool) → isBestAtLimit (judge t budget capacity partial .number) → partial ≡ true

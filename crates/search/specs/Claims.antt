@@ -7,7 +7,7 @@ use Prim.Native.Nat.{ℕ, suc, _-_, _<_}
 use lib.Dec.{eqb, leb}
 use Rattle.search.specs.Game.{Game}
 use Rattle.search.specs.Solve.{Perhaps, none, some, Node, State, grown, End, won, limit, exhausted, outOfNodesAt, Answer}
-use Rattle.search.specs.Solve.{MAX_DEPTH, cost, differs, start, childOf, dropped, noRoom, expand, taken, run, brings}
+use Rattle.search.specs.Solve.{MAX_DEPTH, bestSaid, cost, differs, start, childOf, dropped, noRoom, expand, taken, run, brings}
 
 -- there is something
 abbrev pub isSome : {A : Type 0} → Perhaps A → Bool
@@ -90,6 +90,10 @@ module _ (G : Game) where
     pub state : State G
     pub came : run G budget capacity (start G b) ≡ limit state
     pub brought : brings G partial state ≡ true
+
+  -- the answer then: the best line, called 5 if it ends won and else 1
+  abbrev pub bestOf : State G → Answer G
+  bestOf s = record { number = bestSaid (G .won (s .best .board)); list = some (s .best .line); pops = s .pops }
 
   -- of the candidates of a node one makes this child: it passes the depth and cost tests, and there is room for it
   pub record BornAmong (capacity : ℕ) (n : Node G) (ms : List (G .Move)) (s : State G) (child : Node G) : Type 0 where

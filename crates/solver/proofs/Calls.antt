@@ -347,12 +347,11 @@ module _ {b : Board} (c : Call b) where
       → endsWon (shown b) (l .moves) ≡ true → number c ≡ 5
   T5-then z a r l w =
       let n = gives a .number in
-      let h = best-progress (inl (subst isBestAtLimit (sym n) (proved.T5-called (shown b) (c .budget) (capacity c) (c .partial) r))) in
+      let h = best-progress (inl (subst isBestAtLimit (sym n) (proved.T5-brings (shown b) (c .budget) (capacity c) (c .partial) r))) in
       n ∙ proved.T5-then b (sound-here z a) (c .budget) (capacity c) (c .partial) (l .moves) (list-is a h l) r w
 
-  -- .. and only there
-  pub T5-only : Sized b → number c ≡ 5 → (l : HandsOver c)
-      → Struck freecell (shown b) (c .budget) (capacity c) (c .partial) × (endsWon (shown b) (l .moves) ≡ true)
-  T5-only z e l =
-      let a = answered-accepted (inl (omega arith)) in
-      proved.T5-only b (sound-here z a) (c .budget) (capacity c) (c .partial) (l .moves) (list-is a (ap bringsList e) l) (sym (gives a .number) ∙ e)
+  -- .. and 1 and 5 only where 1 was; what they say of the last board is T1
+  pub T5-struck : isBestAtLimit (number c) → Struck freecell (shown b) (c .budget) (capacity c) (c .partial)
+  T5-struck f =
+      let g = gives (answered-accepted (at-limit (inl f))) in
+      proved.T5-struck (shown b) (c .budget) (capacity c) (c .partial) (subst isBestAtLimit (g .number) f)
