@@ -62,7 +62,7 @@ enum corbelnib_told {
     CORBELNIB_BEST_EXHAUSTED = 2, /* nothing is left to look at; the list leads to the best board seen (only if partial) */
     CORBELNIB_LIMIT = 3,          /* the budget is used up, no list */
     CORBELNIB_EXHAUSTED = 4,      /* nothing is left to look at, no list; no claim that the board cannot be won */
-    CORBELNIB_BEST_FINISHES = 5,  /* as 1, and the last board of the list is won: the list is the best seen, not called won */
+    CORBELNIB_BEST_IS_WON = 5,    /* as 1, and the last board of the list is won: the list is the best seen, not called won */
     CORBELNIB_OUT_OF_NODES = 23,  /* the scratch had no room for another node; no list */
 
     /* Images, boards and decks. */
@@ -96,7 +96,7 @@ enum corbelnib_told {
 };
 
 /* An answer of corbelnib_judge, and no refusal. */
-#define CORBELNIB_IS_ANSWER(told) ((told) <= CORBELNIB_BEST_FINISHES || (told) == CORBELNIB_OUT_OF_NODES)
+#define CORBELNIB_IS_ANSWER(told) ((told) <= CORBELNIB_BEST_IS_WON || (told) == CORBELNIB_OUT_OF_NODES)
 
 /* A move is refused (corbelnib_move, corbelnib_replay, corbelnib_priority). */
 #define CORBELNIB_IS_BAD_MOVE(told) \

@@ -14,6 +14,7 @@ use Rattle.search.proofs.Judge as proved
 use Rattle.solver.specs.Told as solver
 use Rattle.solver.proofs.Calls as calls
 use Rattle.solver.proofs.Masters as masters
+use Rattle.corbelnib.specs.Wire.{boardIn}
 use Rattle.corbelnib.specs.Judged.{flag, isAnswer}
 use Rattle.demands.specs.Calls.{replay, judge, Call, capacityIn}
 use Rattle.demands.specs.Demand1.{GoodSearch}
@@ -35,22 +36,22 @@ module _ (c : Call judge) (r : Call replay) (p : Replays c r) where
   abbrev here : isAnswer (c .number) ≡ true
   here = brought-answer (c .number) (p .brought)
 
-  abbrev search : solver.Call _
-  search = searching c (c .input .board) refl here
+  abbrev asked : solver.Call (boardIn (c .input .board))
+  asked = searching c (c .input .board) refl here
 
-  numbered : solver.number search ≡ c .number
+  numbered : solver.number asked ≡ c .number
   numbered = same-number c (c .input .board) refl here
 
   pub then-5 : StruckBy c → wonOn (tableIn (endOf r) .foundation) ≡ true → c .number ≡ 5
   unfolding searching
   then-5 s w =
       sym numbered
-      ∙ calls.T5-then search (sized c (c .input .board) refl here) (calls.answered-accepted search (answered c (c .input .board) refl here)) s
+      ∙ calls.T5-then asked (sized c (c .input .board) refl here) (calls.answered-accepted asked (answered c (c .input .board) refl here)) s
       (list-of c (p .brought)) (ap (λ (t : Table). wonOn (t .foundation)) (sym (end-table c r p)) ∙ w)
 
   pub struck-by : isBestAtLimit (c .number) → StruckBy c
   unfolding searching
-  struck-by e = calls.T5-struck search (subst isBestAtLimit (sym numbered) e)
+  struck-by e = calls.T5-struck asked (subst isBestAtLimit (sym numbered) e)
 
 small : (c : Call judge) → c .number ≡ 5 → isAnswer (c .number) ≡ true
 small c e = ap isAnswer e

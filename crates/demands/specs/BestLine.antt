@@ -12,7 +12,7 @@ use Rattle.demands.specs.Demand1.{GoodSearch}
 use Rattle.demands.specs.Demand2.{tableIn, Answers, Replays, endOf}
 use Rattle.demands.specs.Demand3.{Accepted, SameList, NoLess}
 
--- document 01 gives 1: the limit strikes, and a best-progress list is brought
+-- 1 was given before this request: the limit strikes, and a best-progress list is brought
 abbrev pub StruckBy : Call judge → Type 0
 StruckBy c = Struck freecell (tableIn (c .input .board)) (c .input .budget) (capacityIn (c .before)) (flag (c .input .partial))
 
@@ -38,7 +38,7 @@ pub data Becomes (x y : Call judge) : Type 0 where
   exhaustedThen : y .number ≡ 2 → SameList x y → SharedSignature y → Becomes x y
 
 pub record BestLine : Type 0 where
-  -- "From now on answer 5, which returns and leaves what 1 does, ..": where document 01 gives 1, the best line is brought, whatever it is called
+  -- "From now on answer 5, which returns and leaves what 1 does, ..": where 1 was given, the best line is brought, whatever it is called
   pub leaves : (c : Call judge) → GoodSearch c → (s : StruckBy c) → Answers c (bestOf freecell (s .state))
   -- ".. replaces 1 when the best board is won": then, ..
   pub finished : (c : Call judge) (r : Call replay) → GoodSearch c → StruckBy c → Replays c r → wonOn (tableIn (endOf r) .foundation) ≡ true → c .number ≡ 5

@@ -154,7 +154,7 @@ T4-same-state t pops c d u v e f = one.same-state freecell pops c d (start freec
 
 -- ---- T5: a best line that finishes
 
--- where document 01 gives 1, the answer brings the best line, and is called 5 if that ends won, else 1
+-- where 1 was given before request (v), the answer brings the best line, and is called 5 if that ends won, else 1
 pub T5-called : (t : Table) (budget capacity : ℕ) (partial : Bool) (r : Struck freecell t budget capacity partial)
     → judge t budget capacity partial ≡ bestOf freecell (r .state)
 unfolding judge
@@ -170,7 +170,7 @@ unfolding judge
 T5-struck t budget capacity partial e = finishing.struck freecell t budget capacity partial e
 
 module _ (b : Board) (s : Sound b) (budget capacity : ℕ) (partial : Bool) (l : List Move) (e : judge (shown b) budget capacity partial .list ≡ some l) where
-  -- 5 is given where 1 was in document 01 and the last board of the list is won ..
+  -- 5 is given where 1 was and the last board of the list is won ..
   pub T5-then : Struck freecell (shown b) budget capacity partial → endsWon (shown b) l ≡ true
       → judge (shown b) budget capacity partial .number ≡ 5
   T5-then r w = by (T5-brings (shown b) budget capacity partial r)

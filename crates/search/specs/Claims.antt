@@ -84,7 +84,7 @@ module _ (G : Game) where
 
   -- ---- a best line that finishes
 
-  -- what 1 means in document 01: the limit strikes, and a best-progress list is brought
+  -- what 1 meant before request (v): the limit strikes, and a best-progress list is brought
   pub record Struck (b : G .Board) (budget capacity : ℕ) (partial : Bool) : Type 0 where
     pub unwon : G .won b ≡ false
     pub state : State G

@@ -342,7 +342,7 @@ module _ {b : Board} (c : Call b) where
       let g = gives (answered-accepted (at-limit (inl f))) in
       proved.T5-flag (shown b) (c .budget) (capacity c) (c .partial) (subst isBestAtLimit (g .number) f)
 
-  -- 5 is given where 1 was in document 01 and the last board of the list is won ..
+  -- 5 is given where 1 was before request (v) and the last board of the list is won ..
   pub T5-then : Sized b → Accepted c → Struck freecell (shown b) (c .budget) (capacity c) (c .partial) → (l : HandsOver c)
       → endsWon (shown b) (l .moves) ≡ true → number c ≡ 5
   T5-then z a r l w =
