@@ -1,13 +1,11 @@
 -- Request (v) holds.
 use mathlib.Core.Path.{_≡_, refl, sym, ap, _∙_, subst}
-use mathlib.Core.Bool.{true, false}
+use mathlib.Core.Bool.{true}
 use mathlib.Core.Logic.{inl, inr}
-use native.Mathlib.Omega.{arith}
 use borrow.Author.Tests.{eqb-true}
 use Rattle.board.specs.Table.{Table}
 use Rattle.questions.specs.Questions.{wonOn}
 use Rattle.signature.specs.Signed.{signatureOf}
-use Rattle.search.specs.Solve.{Answer}
 use Rattle.search.specs.Freecell.{freecell}
 use Rattle.search.specs.Claims.{isBestAtLimit, bestOf, Clash}
 use Rattle.search.proofs.Judge as proved
@@ -18,10 +16,10 @@ use Rattle.corbelnib.specs.Wire.{boardIn}
 use Rattle.corbelnib.specs.Judged.{flag, isAnswer}
 use Rattle.demands.specs.Calls.{replay, judge, Call, capacityIn}
 use Rattle.demands.specs.Demand1.{GoodSearch}
-use Rattle.demands.specs.Demand2.{tableIn, answerTo, Answers, Replays, endOf}
+use Rattle.demands.specs.Demand2.{tableIn, Answers, Replays, endOf}
 use Rattle.demands.specs.Demand3.{Accepted, NoLess}
 use Rattle.demands.specs.BestLine.{StruckBy, SharedSignature, Becomes, wonThen, still, noRoomThen, exhaustedThen, BestLine}
-use Rattle.demands.proofs.Searching.{good-answered, searching, same-number, answered, sized}
+use Rattle.demands.proofs.Searching.{searching, same-number, answered, sized}
 use Rattle.demands.proofs.Replaying.{brought-answer, list-of, end-table, end-finished, end-unfinished}
 use Rattle.demands.proofs.Demand2.{answers-as}
 use Rattle.demands.proofs.Demand3.{one, other, list-same, number-one, accepted-other, less}

@@ -4,7 +4,7 @@
 -- original Rust on random boards, deals, boards that meet the depth limit and damaged input (README tells how), and the gate runs a
 -- sample of the same (crates oracle_boards, oracle_moves, oracle_signatures, oracle_scores, oracle_judge, oracle_calls and texts).
 use mathlib.Core.Path.{_≡_}
-use mathlib.Core.Bool.{Bool, true}
+use mathlib.Core.Bool.{true}
 use mathlib.Core.List.{List, []}
 use Prim.Native.Nat.{ℕ, _*_, _≤_}
 use lib.ListN.{length, getD, take}

@@ -2,9 +2,9 @@
 -- after exhaustion; and a run that has borne a won node is exhausted only if one that is not won took its place in what is known.
 use mathlib.Core.Path.{_≡_, refl, sym, ap, _∙_, subst}
 use mathlib.Core.Bool.{Bool, true, false, cond, not, _&&_}
-use mathlib.Core.List.{List, [], _∷_, _++_}
+use mathlib.Core.List.{List, [], _∷_}
 use mathlib.Core.Logic.{_⊎_, inl, inr}
-use Prim.Native.Nat.{ℕ, zero, suc, _-_, _<_, _≤_}
+use Prim.Native.Nat.{ℕ, zero, suc, _-_, _≤_}
 use native.Mathlib.Omega.{arith}
 use borrow.Author.Tests.{eq-eqb, le-ltb}
 use lib.Dec.{eqb, leb, ltb}
@@ -16,7 +16,7 @@ use Rattle.search.specs.Claims.{isBestAtLimit, Expanded, Struck, bestOf,
 use Rattle.search.proofs.Numbers.{said-won, not-at-limit}
 use Rattle.search.proofs.Kept.{EndKept, kept}
 use Rattle.search.proofs.Later.{goes-on}
-use Rattle.search.proofs.Lines.{Fine, Sane, BestFine, best-fine, takes, bears, start-sane}
+use Rattle.search.proofs.Lines.{Fine, Sane, takes, bears, start-sane}
 
 -- ---- a won best stays best
 
