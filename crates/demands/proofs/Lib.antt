@@ -1,4 +1,4 @@
--- The three demands hold, `demand1`, `demand2`, `demand3`, and what the requests add: `handsByNumber`, `whyRefused`.
+-- The three demands hold, `demand1`, `demand2`, `demand3`, and what the requests add: `handsByNumber`, `whyRefused`, `bestLine`.
 pub mod Examples
 pub mod Refusing
 pub mod Crossing
