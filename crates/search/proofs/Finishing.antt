@@ -8,12 +8,13 @@ use Prim.Native.Nat.{ℕ, zero, suc, _-_, _≤_}
 use native.Mathlib.Omega.{arith}
 use borrow.Author.Tests.{eq-eqb, le-ltb}
 use lib.Dec.{eqb, leb, ltb}
-use Rattle.base.proofs.Words.{true-or-not, first}
+use Rattle.base.proofs.Words.{true-or-not}
 use Rattle.search.specs.Game.{Game, Laws, among}
 use Rattle.search.specs.Solve.{Perhaps, some, Node, State, Grown, outOfNodes, grown, End, won, limit, exhausted, outOfNodesAt, Turn, over, again, Answer}
 use Rattle.search.specs.Solve.{MAX_DEPTH, atLimit, whenExhausted, bestExhausted, bestSaid, cost, differs, before, queued, learned, better, start, childOf, dropped, bearing, noRoom, bornAs, bear, thenGrow, expand, grownTurn, visitAs, visit, taken, onward, stopped, goOn, run, brings, bestAtLimit, progressed, answer, solveAs, solve}
-use Rattle.search.specs.Claims.{isBestAtLimit, Expanded, Struck, bestOf, BornAmong, Borne, Clash, Becomes, wonThen, still, noRoomThen, exhaustedThen}
-use Rattle.search.proofs.Numbers.{said-won, not-at-limit}
+use Rattle.search.specs.Claims.{Expanded, BornAmong, Borne, Clash, Becomes, wonThen, still, noRoomThen, exhaustedThen}
+use Rattle.search.proofs.Numbers.{said-won}
+use Rattle.search.proofs.Striking.{two-or-four}
 use Rattle.search.proofs.Kept.{EndKept, kept}
 use Rattle.search.proofs.Later.{goes-on}
 use Rattle.search.proofs.Lines.{Fine, Sane, takes, bears, start-sane}
@@ -304,45 +305,6 @@ module _ (G : Game) (self : (b : G .Board) → G .same b b ≡ true) (Born : Nod
       going rest [] w = nothing-stands s w h
       going rest (n ∷ l) w =
           going-on rest n l w (visit G c n (taken G l s)) refl (turned c n l s w (λ x m r. i m (now-born n l w x m r)) h)
-
--- ---- when it is answered
-
-module _ (G : Game) (b : G .Board) (budget capacity : ℕ) (partial : Bool) where
-  -- where the limit strikes with a list, the answer is the best line, and its number says whether the last board is won
-  pub called : (r : Struck G b budget capacity partial) → solve G b budget capacity partial ≡ bestOf G (r .state)
-  unfolding solve
-  called r =
-      ap (λ (w : Bool). solveAs G w b budget capacity partial) (r .unwon)
-      ∙ ap (answer G partial) (r .came)
-      ∙ ap (λ (t : Bool). progressed G t (bestAtLimit G (r .state)) atLimit (r .state)) (r .brought)
-
-  two-or-four : {A : Type 0} (t : Bool) (s : State G) → isBestAtLimit (progressed G t bestExhausted whenExhausted s .number) → A
-  two-or-four true s e = absurd (not-at-limit {n = 2} (λ z. omega arith) (λ z. omega arith) e)
-  two-or-four false s e = absurd (not-at-limit {n = 4} (λ z. omega arith) (λ z. omega arith) e)
-
-  struck-by : (e : End G) → G .won b ≡ false → run G budget capacity (start G b) ≡ e → isBestAtLimit (answer G partial e .number)
-      → Struck G b budget capacity partial
-  struck-by (won l p) u f e = absurd (not-at-limit {n = 0} (λ z. omega arith) (λ z. omega arith) e)
-  struck-by (limit s) u f e = by (brings G partial s) refl e
-    where
-      by : (t : Bool) → brings G partial s ≡ t → isBestAtLimit (progressed G t (bestAtLimit G s) atLimit s .number) → Struck G b budget capacity partial
-      by true t e = record { unwon = u; state = s; came = f; brought = t }
-      by false t e = absurd (not-at-limit {n = 3} (λ z. omega arith) (λ z. omega arith) e)
-  struck-by (exhausted s) u f e = two-or-four (brings G partial s) s e
-  struck-by (outOfNodesAt p) u f e = absurd (not-at-limit {n = 23} (λ z. omega arith) (λ z. omega arith) e)
-
-  -- and 1 and 5 are given only then
-  pub struck : isBestAtLimit (solve G b budget capacity partial .number) → Struck G b budget capacity partial
-  unfolding solve
-  struck e = by (G .won b) refl e
-    where
-      by : (w : Bool) → G .won b ≡ w → isBestAtLimit (solveAs G w b budget capacity partial .number) → Struck G b budget capacity partial
-      by true f e = absurd (not-at-limit {n = 0} (λ z. omega arith) (λ z. omega arith) e)
-      by false f e = struck-by (run G budget capacity (start G b)) f refl e
-
-  -- so with the flag alone
-  pub flagged : isBestAtLimit (solve G b budget capacity partial .number) → partial ≡ true
-  flagged e = let r = struck e in first partial (not (eqb (r .state .best .number) 0)) (r .brought)
 
 -- ---- what it becomes
 

@@ -19,6 +19,7 @@ use Rattle.replay.specs.Played.{afterMoves, Legal}
 use Rattle.replay.proofs.Legal.{legal-fair, legal-cards, line-legal}
 use Rattle.score.specs.Features.{Bounded, featuresOf}
 use Rattle.score.specs.Scores.{progressKey}
+use Rattle.score.proofs.Bounds.{fair-bounded}
 use Rattle.score.proofs.Keys.{progress-order}
 use Rattle.search.specs.Solve.{some, none, State, Answer, limit, start, run}
 use Rattle.search.specs.Freecell.{freecell, judge}
@@ -26,12 +27,12 @@ use Rattle.search.specs.Claims.{isSome, bringsList, isBestAtLimit, isBes
 use Rattle.search.specs.Played.{endsWon, PlayedOut, finalScore}
 use Rattle.search.proofs.Numbers.{limit-said}
 use Rattle.search.proofs.Ruled.{Reaches, freecell-laws}
-use Rattle.search.proofs.Signed.{fair-bounded}
 use Rattle.search.proofs.Lines.{Answered, lines-lead, list-when}
 use Rattle.search.proofs.Masters as masters
 use Rattle.search.proofs.Pops.{pops-within, limit-spends}
 use Rattle.search.proofs.Room.{no-room-only-then, no-room-always-then}
 use Rattle.search.proofs.OneRun as one
+use Rattle.search.proofs.Striking as striking
 use Rattle.search.proofs.Finishing as finishing
 
 -- ---- T1: lists that can be played
@@ -158,7 +159,7 @@ T4-same-state t pops c d u v e f = one.same-state freecell pops c d (start freec
 pub T5-called : (t : Table) (budget capacity : ℕ) (partial : Bool) (r : Struck freecell t budget capacity partial)
     → judge t budget capacity partial ≡ bestOf freecell (r .state)
 unfolding judge
-T5-called t budget capacity partial r = finishing.called freecell t budget capacity partial r
+T5-called t budget capacity partial r = striking.called freecell t budget capacity partial r
 
 pub T5-brings : (t : Table) (budget capacity : ℕ) (partial : Bool) → Struck freecell t budget capacity partial → isBestAtLimit (judge t budget capacity partial .number)
 T5-brings t budget capacity partial r =
@@ -167,7 +168,7 @@ T5-brings t budget capacity partial r =
 -- and 1 and 5 are given only there
 pub T5-struck : (t : Table) (budget capacity : ℕ) (partial : Bool) → isBestAtLimit (judge t budget capacity partial .number) → Struck freecell t budget capacity partial
 unfolding judge
-T5-struck t budget capacity partial e = finishing.struck freecell t budget capacity partial e
+T5-struck t budget capacity partial e = striking.struck freecell t budget capacity partial e
 
 module _ (b : Board) (s : Sound b) (budget capacity : ℕ) (partial : Bool) (l : List Move) (e : judge (shown b) budget capacity partial .list ≡ some l) where
   -- 5 is given where 1 was and the last board of the list is won ..
@@ -186,7 +187,7 @@ module _ (b : Board) (s : Sound b) (budget capacity : ℕ) (partial : Bool) (l :
 -- 1 and 5 are given with the flag alone
 pub T5-flag : (t : Table) (budget capacity : ℕ) (partial : Bool) → isBestAtLimit (judge t budget capacity partial .number) → partial ≡ true
 unfolding judge
-T5-flag t budget capacity partial e = finishing.flagged freecell t budget capacity partial e
+T5-flag t budget capacity partial e = striking.flagged freecell t budget capacity partial e
 
 -- with budget and capacity no smaller and the same flag, 5 becomes 0, 5 with the same list, 23, or 2 with the same list, the last only
 -- where two boards that the run bears, one won and one not, share a signature

@@ -10,9 +10,9 @@ pub mod Later
 pub mod Masters
 pub mod Pops
 pub mod Room
+pub mod Striking
 pub mod Finishing
 pub mod OneRun
 pub mod Signed
-pub mod Winning
 pub mod Ruled
 pub mod Judge

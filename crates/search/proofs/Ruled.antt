@@ -10,13 +10,13 @@ use Rattle.replay.specs.Played.{afterMoves, Legal}
 use Rattle.replay.proofs.Legal.{after-none, after-append, legal-append}
 use Rattle.generate.specs.Found.{isIn}
 use Rattle.signature.specs.Signed.{signatureOf}
+use Rattle.score.proofs.Winning.{won-most}
 use Rattle.candidates.specs.Candidates.{candidates}
 use Rattle.candidates.specs.Inner.{Playable}
 use Rattle.candidates.proofs.Trying.{one-of-all, all-candidates}
 use Rattle.candidates.proofs.Bearing.{child-legal, child-fair, child-reached}
 use Rattle.search.specs.Game.{Laws, among}
 use Rattle.search.specs.Freecell.{freecell}
-use Rattle.search.proofs.Winning.{won-most}
 
 -- the moves are legal from t, and u is the table after them
 pub record Reaches (t : Table) (l : List Move) (u : Table) : Type 0 where
