@@ -59,10 +59,11 @@ enum corbelnib_told {
 
     /* Answers of corbelnib_judge. */
     CORBELNIB_WON = 0,            /* the list wins */
-    CORBELNIB_BEST_AT_LIMIT = 1,  /* the budget is used up; the list leads to the best board seen (only if partial) */
+    CORBELNIB_BEST_AT_LIMIT = 1,  /* the budget is used up; the list leads to the best board seen, not won (only if partial) */
     CORBELNIB_BEST_EXHAUSTED = 2, /* nothing is left to look at; the list leads to the best board seen (only if partial) */
     CORBELNIB_LIMIT = 3,          /* the budget is used up, no list */
     CORBELNIB_EXHAUSTED = 4,      /* nothing is left to look at, no list; no claim that the board cannot be won */
+    CORBELNIB_BEST_IS_WON = 5,    /* as 1, and the last board of the list is won: the list is the best seen, not called won */
     CORBELNIB_OUT_OF_NODES = 23,  /* the scratch had no room for another node; no list */
 
     /* Images, boards and decks. */
@@ -100,7 +101,7 @@ enum corbelnib_told {
 };
 
 /* An answer of corbelnib_judge, and no refusal. */
-#define CORBELNIB_IS_ANSWER(told) ((told) <= CORBELNIB_EXHAUSTED || (told) == CORBELNIB_OUT_OF_NODES)
+#define CORBELNIB_IS_ANSWER(told) ((told) <= CORBELNIB_BEST_IS_WON || (told) == CORBELNIB_OUT_OF_NODES)
 
 /* A move is refused (corbelnib_move, corbelnib_replay, corbelnib_priority, corbelnib_read_line, corbelnib_write_line). */
 #define CORBELNIB_IS_BAD_MOVE(told) \
@@ -217,14 +218,16 @@ uint8_t corbelnib_token(const uint8_t *board, size_t board_length, uint8_t *text
 size_t corbelnib_capacity(size_t nodes_length, size_t heap_length, size_t keys_length, size_t costs_length);
 
 /* Judges a board: looks for a winning line, taking at most `budget` boards from its frontier; `partial` other than 0 allows
- * an unfinished line. The scratch may hold anything before; earlier bytes affect no answer. A node takes 38 bytes of it, and
- * the parts may have any lengths (corbelnib_capacity). Answers are 0 to 4 and 23 (CORBELNIB_IS_ANSWER).
+ * the line to the best board seen, which ends won (5) or not (1) when the budget is used up. The scratch may hold anything
+ * before; earlier bytes affect no answer. A node takes 38 bytes of it, and the parts may have any lengths
+ * (corbelnib_capacity). Answers are 0 to 5 and 23 (CORBELNIB_IS_ANSWER).
  *
  * An answer tells in `*pops` how many boards were taken and in `*moves` how many moves the list has (0 where there is none,
  * at most 200), writes the list's moves, five bytes each, to the start of `list` (bytes beyond stay) and leaves every byte of
  * the scratch 0. Two controllers never disagree: on one board no two answers, whatever their budgets and scratch, give two
- * different winning lists, or won and 2 or 4; more budget and scratch keep 0, 2 and 4 as they were. Refusals, which change
- * nothing: 12 to 15, 20, 21 if `list` has fewer than 1,000 bytes, 22. */
+ * different winning lists, or won and 2 or 4; more budget and scratch keep 0, 2 and 4 as they were. 5 is a best line, as 1 and
+ * 2 are: more budget and scratch make 0 of it, 5 with the same list, 23, or, where two boards of the run share a signature, 2
+ * with the same list. Refusals, which change nothing: 12 to 15, 20, 21 if `list` has fewer than 1,000 bytes, 22. */
 uint8_t corbelnib_judge(const uint8_t *board, size_t board_length, size_t budget, uint8_t partial, uint32_t *nodes,
                         size_t nodes_length, uint64_t *heap, size_t heap_length, uint64_t *keys, size_t keys_length,
                         uint8_t *costs, size_t costs_length, uint8_t *list, size_t list_length, size_t *pops,

@@ -35,7 +35,7 @@ s=crates/oneboard/stdin
 prints '0 2 1
 2 0 3 1 211' "$s"
 prints '3 1 0' "$s" 1
-prints '1 1 1
+prints '5 1 1
 2 0 3 1 211' "$s" 1 10 partial
 # an image cut short, a budget over 1,000,000, scratch that holds no node
 prints 10 "$short"

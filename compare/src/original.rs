@@ -61,20 +61,15 @@ pub mod freecell {
             gauge::start(budget, capacity, depth);
             let moves = FreeCellSolver::new().solve(board, 0.0, partial);
             let gauge = gauge::reading();
-            let number = if gauge.no_room {
-                23
-            } else if gauge.limit {
-                if moves.is_some() {
-                    1
-                } else {
-                    3
-                }
-            } else {
-                match &moves {
-                    Some(list) if ends_won(board, list) => 0,
-                    Some(_) => 2,
-                    None => 4,
-                }
+            let ends = moves.as_ref().map(|list| ends_won(board, list));
+            let number = match (gauge.limit, ends) {
+                _ if gauge.no_room => 23,
+                (true, Some(true)) => 5,
+                (true, Some(false)) => 1,
+                (true, None) => 3,
+                (false, Some(true)) => 0,
+                (false, Some(false)) => 2,
+                (false, None) => 4,
             };
             let list = if number == 23 { None } else { moves };
             Judged {

@@ -1,16 +1,18 @@
 // The sample of the original's answers that the gate holds ours to without the original: input and expected output of the
 // program crates/oracle_judge, whose src/main.rt says how they are laid out.
 use crate::original::freecell::board::FreeCellBoard;
-use crate::original::freecell::solver::{self, Judged};
+use crate::original::freecell::solver::{self, deal, Judged};
 use crate::sheet::Sheet;
 use crate::tasks::Run;
-use crate::{boards, codes, deep, gauge, progress};
+use crate::{boards, codes, deep, gauge, numbers, progress};
 
 const BUDGETS: [usize; 6] = [0, 1, 2, 10, 100, 1_000];
 // the most nodes of a random board
 const NODES: usize = 2_000;
 // the most nodes that the program has memory for
 const MORE_NODES: usize = 24_000;
+// hands that are won within 1,000 pops, by their numbers
+const FINISHING: [usize; 4] = [3, 8, 11, 22];
 
 fn line(judged: &Judged) -> String {
     let list: String = judged
@@ -86,6 +88,22 @@ fn deep(board: FreeCellBoard) -> Vec<Case> {
     cases
 }
 
+// A hand that is won after so many pops, with two pops too few, one too few, and enough: best progress, a best line that finishes, won.
+fn finishing(number: usize) -> Vec<Case> {
+    let board = deal(&numbers::deck(number)).unwrap();
+    let won = solver::judge(&board, 1_000, MORE_NODES, true);
+    let at = |budget| Case {
+        board: board.clone(),
+        budget,
+        nodes: won.births,
+        partial: true,
+    };
+    let cases: Vec<Case> = (won.pops - 2..=won.pops).map(at).collect();
+    let told = |case: &Case| case.judged(gauge::DEPTH).number;
+    assert_eq!(cases.iter().map(told).collect::<Vec<u8>>(), [1, 5, 0]);
+    cases
+}
+
 // The lines of the sample that another limit of depth would change.
 fn otherwise(cases: &[Case], depth: usize) {
     let lines: Vec<usize> = (0..cases.len())
@@ -95,10 +113,11 @@ fn otherwise(cases: &[Case], depth: usize) {
     println!("  depth {depth} differs in lines {lines:?}");
 }
 
-// Random boards, and then those that go deep.
+// Random boards, then those that go deep, then hands around the pop at which they are won.
 fn all_cases(run: &Run, tasks: usize) -> Vec<Case> {
     let (tasks, known) = (run.first..run.first.max(tasks), deep::known());
-    progress::told("sample", tasks.len() + known.len(), |progress| {
+    let all = tasks.len() + known.len() + FINISHING.len();
+    progress::told("sample", all, |progress| {
         let mut cases = Vec::new();
         for task in tasks {
             cases.extend(random(run, task));
@@ -106,6 +125,10 @@ fn all_cases(run: &Run, tasks: usize) -> Vec<Case> {
         }
         for board in known {
             cases.extend(deep(board));
+            progress.one_done();
+        }
+        for number in FINISHING {
+            cases.extend(finishing(number));
             progress.one_done();
         }
         cases
@@ -124,8 +147,8 @@ pub fn write(run: &Run, tasks: usize) -> std::io::Result<()> {
     }
     assert!(cases.iter().all(|case| case.nodes <= MORE_NODES));
     println!(
-        "  answers 0 to 4 and 23: {:?} {}",
-        &numbers[..5],
+        "  answers 0 to 5 and 23: {:?} {}",
+        &numbers[..6],
         numbers[23]
     );
     for depth in deep::OTHERS {

@@ -1,4 +1,4 @@
--- An answer that C gets is the answer of a call of the search that keeps its promise: T1 to T4
+-- An answer that C gets is the answer of a call of the search that keeps its promise: T1 to T5
 -- (search/proofs/Judge.antt) hold for it.
 use mathlib.Core.Path.{_≡_, refl, sym, ap, _∙_}
 use mathlib.Core.Bool.{Bool, true, cond, _||_}
@@ -12,7 +12,7 @@ use lib.ListN.{length}
 use Rattle.solver.specs.Searched.{Outcome, saidNumber, refusedWith, searched}
 use Rattle.solver.specs.Told.{Call, IsAnswer}
 use Rattle.solver.specs.declared.Said.{Said}
-use Rattle.solver.specs.declared.Said.the-variants.{Won, BestAtLimit, BestExhausted, Limit, Exhausted, OutOfNodes}
+use Rattle.solver.specs.declared.Said.the-variants.{Won, BestAtLimit, BestExhausted, Limit, Exhausted, BestIsWon, OutOfNodes}
 use Rattle.corbelnib.specs.Wire.{boardIn}
 use Rattle.corbelnib.specs.Judged.{flag, isAnswer, leaves, pointed, judgeLeft}
 use Rattle.memory.specs.Memory.{lent}
@@ -24,16 +24,18 @@ saidBy (suc zero) = BestAtLimit
 saidBy (suc (suc zero)) = BestExhausted
 saidBy (suc (suc (suc zero))) = Limit
 saidBy (suc (suc (suc (suc zero)))) = Exhausted
-saidBy (suc (suc (suc (suc (suc n))))) = OutOfNodes
+saidBy (suc (suc (suc (suc (suc zero))))) = BestIsWon
+saidBy (suc (suc (suc (suc (suc (suc n)))))) = OutOfNodes
 
-said-small : (n : ℕ) → n ≤ 4 → saidNumber (saidBy n) ≡ n
+said-small : (n : ℕ) → n ≤ 5 → saidNumber (saidBy n) ≡ n
 unfolding saidBy
 said-small zero h = refl
 said-small (suc zero) h = refl
 said-small (suc (suc zero)) h = refl
 said-small (suc (suc (suc zero))) h = refl
 said-small (suc (suc (suc (suc zero)))) h = refl
-said-small (suc (suc (suc (suc (suc n))))) h = absurd (let w : ⊥ = omega arith in w)
+said-small (suc (suc (suc (suc (suc zero))))) h = refl
+said-small (suc (suc (suc (suc (suc (suc n)))))) h = absurd (let w : ⊥ = omega arith in w)
 
 pub said-again : (n : ℕ) → IsAnswer n → saidNumber (saidBy n) ≡ n
 unfolding saidBy
@@ -41,7 +43,7 @@ said-again n (inl h) = said-small n h
 said-again n (inr e) = ap (λ (k : ℕ). saidNumber (saidBy k)) e ∙ sym e
 
 pub is-answer : (n : ℕ) → IsAnswer n → isAnswer n ≡ true
-is-answer n (inl h) = ap (λ (x : Bool). x || eqb n 23) (le-leb n 4 h)
+is-answer n (inl h) = ap (λ (x : Bool). x || eqb n 23) (le-leb n 5 h)
 is-answer n (inr e) = ap isAnswer e
 
 module _ (nodes heap keys costs list : List ℕ) (pops moves : ℕ) (board : List ℕ) (budget partial : ℕ) (whole : length board ≡ 432) where

@@ -11,9 +11,9 @@ use Rattle.corbelnib.specs.Wire.{boardRoom, boardIn}
 abbrev pub flag : ℕ → Bool
 flag n = not (eqb n 0)
 
--- 0 to 4 and 23 are answers, the other numbers refusals
+-- 0 to 5 and 23 are answers, the other numbers refusals
 abbrev pub isAnswer : ℕ → Bool
-isAnswer n = leb n 4 || eqb n 23
+isAnswer n = leb n 5 || eqb n 23
 
 -- what a call leaves, part by part
 abbrev pub leaves : ℕ → ℕ → ℕ → List ℕ → List ℕ → List ℕ → List ℕ → List ℕ → Outcome

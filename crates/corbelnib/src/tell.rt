@@ -84,11 +84,11 @@ pub fn signature(answer: SignatureAnswer, to: &mut u64) -> u8
     }
 }
 
-// 0 to 4 and 23 are answers.
+// 0 to 5 and 23 are answers.
 pub fn is_answer(number: u8) -> bool
     ensures { λ r. ⌜ r ≡ isAnswer number ⌝ }
 {
-    if number <= 4 {
+    if number <= 5 {
         return true;
     }
     number == 23

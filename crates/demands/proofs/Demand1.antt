@@ -3,7 +3,6 @@ use mathlib.Core.Path.{_≡_, refl, sym, ap, ap₂, _∙_, subst}
 use mathlib.Core.Bool.{Bool, true, false, cond, _||_, or-true}
 use mathlib.Core.List.{List, [], _∷_, _++_}
 use Prim.Native.Nat.{ℕ}
-use native.Mathlib.Omega.{arith}
 use borrow.Author.Tests.{eqb-true}
 use lib.Dec.{eqb, leb}
 use lib.IntN.{ℤ}
@@ -37,6 +36,7 @@ use Rattle.candidates.specs.Candidates.{candidates as tried}
 use Rattle.paper.specs.Lines.{gives, checked, lineRead, textOf}
 use Rattle.paper.specs.Asked.{readAsked, listAfter, textRoom, movesIn, playedThrough, writtenThrough, writeAsked, textAfter}
 use Rattle.solver.specs.Told as solver
+use Rattle.search.specs.Claims.{bringsList}
 use Rattle.solver.proofs.Calls.{answer-clears, T1-none}
 use Rattle.corbelnib.specs.Wire.{boardRoom, boardIn}
 use Rattle.corbelnib.specs.Crossing.{left, told, asked}
@@ -288,7 +288,7 @@ module _ (c : Call judge) (a : isAnswer (c .number) ≡ true) where
   unfolding searching
   list-stays e =
       let n = same-number c (c .input .board) refl a in
-      T1-none (searching c (c .input .board) refl a) (omega arith) .same
+      T1-none (searching c (c .input .board) refl a) (ap bringsList (n ∙ e)) .same
 
 same-end : {e : Entry} (x y : Call e) → x .input ≡ y .input → x .before ≡ y .before → left (x .number) (x .after) ≡ left (y .number) (y .after)
 same-end {e} x y p q = x .keeps ∙ ap₂ (promise e) p q ∙ sym (y .keeps)

@@ -6,7 +6,7 @@ use mathlib.Core.Logic.{_⊎_, inl, inr}
 use Prim.Native.Nat.{ℕ, _≤_}
 use native.Mathlib.Omega.{arith}
 use borrow.Author.Tests.{le-leb, eqb-true}
-use lib.Dec.{eqb, leb}
+use lib.Dec.{eqb}
 use lib.IntN.{ℤ}
 use lib.ListN.{length}
 use lib.Signed.{leZ}
@@ -18,6 +18,7 @@ use Rattle.score.specs.Features.{featuresOf}
 use Rattle.score.specs.Scores.{progress}
 use Rattle.search.specs.Freecell.{freecell, judge as search-of}
 use Rattle.search.specs.Solve.{Answer}
+use Rattle.search.specs.Claims.{bringsList, isBest}
 use Rattle.search.specs.Played.{finalScore}
 use Rattle.solver.specs.Told as solver
 use Rattle.solver.specs.Searched.{movesOf}
@@ -52,31 +53,34 @@ fixed-is n e = by (isWon n) refl e
     by true q h = inl (won-is n q)
     by false q h = inr (one-or n 2 4 h)
 
-small-answer : (n : ℕ) → n ≤ 4 → isAnswer n ≡ true
-small-answer n h = ap (λ (b : Bool). b || eqb n 23) (le-leb n 4 h)
+small-answer : (n : ℕ) → n ≤ 5 → isAnswer n ≡ true
+small-answer n h = ap (λ (b : Bool). b || eqb n 23) (le-leb n 5 h)
 
 won-answer : (n : ℕ) → isWon n ≡ true → isAnswer n ≡ true
 won-answer n e = small-answer n (let z = won-is n e in omega arith)
 
-at-most-4 : (n : ℕ) → (n ≡ 0) ⊎ ((n ≡ 2) ⊎ (n ≡ 4)) → n ≤ 4
-at-most-4 n (inl e) = omega arith
-at-most-4 n (inr (inl e)) = omega arith
-at-most-4 n (inr (inr e)) = omega arith
+at-most-5 : (n : ℕ) → (n ≡ 0) ⊎ ((n ≡ 2) ⊎ (n ≡ 4)) → n ≤ 5
+at-most-5 n (inl e) = omega arith
+at-most-5 n (inr (inl e)) = omega arith
+at-most-5 n (inr (inr e)) = omega arith
 
-best-brings : (n : ℕ) → (n ≡ 1) ⊎ (n ≡ 2) → leb n 2 ≡ true
-best-brings n (inl e) = le-leb n 2 (omega arith)
-best-brings n (inr e) = le-leb n 2 (omega arith)
+best-is : (n : ℕ) → isBestProgress n ≡ true → isBest n
+best-is n e = by (eqb n 1 || eqb n 5) refl e
+  where
+    by : (t : Bool) → (eqb n 1 || eqb n 5) ≡ t → (t || eqb n 2) ≡ true → isBest n
+    by true q h = inl (one-or n 1 5 q)
+    by false q h = inr (eqb-true n 2 h)
 
 -- ---- two calls as two calls of the search, on the second one's board
 
 module _ (x y : Call judge) (same : SameBoard x y) (a : isAnswer (x .number) ≡ true) (d : isAnswer (y .number) ≡ true) where
-  abbrev one : solver.Call (boardIn (y .input .board))
+  abbrev pub one : solver.Call (boardIn (y .input .board))
   one = searching x (y .input .board) same a
 
-  abbrev other : solver.Call (boardIn (y .input .board))
+  abbrev pub other : solver.Call (boardIn (y .input .board))
   other = searching y (y .input .board) refl d
 
-  list-same : solver.SameList one other → SameList x y
+  pub list-same : solver.SameList one other → SameList x y
   unfolding searching
   list-same s = record { moves = s .many; bytes = s .bytes }
 
@@ -89,16 +93,16 @@ module _ (x y : Call judge) (same : SameBoard x y) (a : isAnswer (x .number) ≡
         list = list-same (s .list);
       }
 
-  number-one : (P : ℕ → Type 0) → P (x .number) → P (solver.number one)
+  pub number-one : (P : ℕ → Type 0) → P (x .number) → P (solver.number one)
   number-one P p = subst P (sym (same-number x (y .input .board) same a)) p
 
   number-other : (P : ℕ → Type 0) → P (y .number) → P (solver.number other)
   number-other P p = subst P (sym (same-number y (y .input .board) refl d)) p
 
-  accepted-other : solver.Accepted other
+  pub accepted-other : solver.Accepted other
   accepted-other = answered-accepted other (answered y (y .input .board) refl d)
 
-  less : NoLess x y → solver.NoLarger one other
+  pub less : NoLess x y → solver.NoLarger one other
   unfolding searching
   less n = record { budget = n .budget; room = n .room; flag = n .flag }
 
@@ -116,14 +120,14 @@ not-both x y same e =
     (λ f.
     let a = won-answer (x .number) e in
     let ends = one-or (y .number) 2 4 f in
-    let d = small-answer (y .number) (at-most-4 (y .number) (inr ends)) in
+    let d = small-answer (y .number) (at-most-5 (y .number) (inr ends)) in
     masters.T2-apart (one x y same a d) (other x y same a d)
     (number-one x y same a d (λ n. n ≡ 0) (won-is (x .number) e)) (number-other x y same a d (λ n. (n ≡ 2) ⊎ (n ≡ 4)) ends))
 
 stays-so : (x y : Call judge) → NoLess x y → Accepted y → (isWon (x .number) || isExhausted (x .number)) ≡ true → SameAnswer x y
 stays-so x y n d e =
     let ends = fixed-is (x .number) e in
-    let a = small-answer (x .number) (at-most-4 (x .number) ends) in
+    let a = small-answer (x .number) (at-most-5 (x .number) ends) in
     let same = n .board in
     answer-same x y same a d
     (masters.T3-stays (one x y same a d) (other x y same a d) (less x y same a d n) (accepted-other x y same a d)
@@ -139,7 +143,7 @@ accepts-more x y n a h k =
 -- ---- the final score is the progress score of the table after the list
 
 module _ (c : Call judge) (s : FinalScore c) where
-  abbrev brought : leb (c .number) 2 ≡ true
+  abbrev brought : bringsList (c .number) ≡ true
   brought = s .replays .brought
 
   score-is : scoreOf s ≡ finalScore (tableIn (c .input .board)) (list-of c brought .moves)
@@ -169,8 +173,8 @@ never-lower x y n e f s t =
     let same = n .board in
     let a = brought-answer (x .number) (s .replays .brought) in
     let d = brought-answer (y .number) (t .replays .brought) in
-    let best = number-one x y same a d (λ k. (k ≡ 1) ⊎ (k ≡ 2)) (one-or (x .number) 1 2 e) in
-    let best2 = number-other x y same a d (λ k. (k ≡ 1) ⊎ (k ≡ 2)) (one-or (y .number) 1 2 f) in
+    let best = number-one x y same a d isBest (best-is (x .number) e) in
+    let best2 = number-other x y same a d isBest (best-is (y .number) f) in
     let size = sized y (y .input .board) refl d in
     let l = calls.T1 (one x y same a d) size (calls.best-progress best) in
     let m = calls.T1 (other x y same a d) size (calls.best-progress best2) in

@@ -1,4 +1,4 @@
--- The three demands hold, `demand1`, `demand2`, `demand3`, and what the requests add: `handsByNumber`, `whyRefused`, `linesOnPaper`.
+-- The three demands hold, `demand1`, `demand2`, `demand3`, and what the requests add: `handsByNumber`, `whyRefused`, `linesOnPaper`, `bestLine`.
 pub mod Examples
 pub mod Refusing
 pub mod Crossing
@@ -12,3 +12,4 @@ pub mod Demand3
 pub mod HandsByNumber
 pub mod WhyRefused
 pub mod LinesOnPaper
+pub mod BestLine

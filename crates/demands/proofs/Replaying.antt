@@ -1,11 +1,9 @@
 -- The list that a search brought, given to corbelnib_replay: it ends well, on the board after its last move.
 use mathlib.Core.Path.{_≡_, refl, sym, ap, _∙_, subst}
-use mathlib.Core.Bool.{Bool, true, _||_}
+use mathlib.Core.Bool.{Bool, true, false}
 use mathlib.Core.List.{List, [], _∷_, _++_}
 use Prim.Native.Nat.{ℕ, _*_, _%_, _≤_}
 use native.Mathlib.Omega.{arith}
-use borrow.Author.Tests.{le-leb, leb-true}
-use lib.Dec.{eqb, leb}
 use lib.ListN.{length, take, drop}
 use lib.Seq.{take-at}
 use Rattle.base.specs.Answer.{Answer, given, unless}
@@ -27,7 +25,9 @@ use Rattle.replay.proofs.Legal.{legal-fair, records-written}
 use Rattle.moves.specs.Written.{bytesOf}
 use Rattle.moves.proofs.Writing.{bytes-long}
 use Rattle.base.specs.Put.{over}
+use Rattle.search.specs.Claims.{bringsList}
 use Rattle.solver.specs.Told.{HandsOver}
+use Rattle.solver.specs.Told as solver
 use Rattle.solver.proofs.Calls as calls
 use Rattle.corbelnib.specs.Wire.{boardRoom, boardIn}
 use Rattle.corbelnib.specs.Wire as wire
@@ -35,9 +35,10 @@ use Rattle.corbelnib.specs.Crossing.{Left, left}
 use Rattle.corbelnib.specs.Boards.{lineLeft, replayLeft}
 use Rattle.corbelnib.specs.Judged.{isAnswer}
 use Rattle.corbelnib.proofs.Handing.{line-yes}
+use Rattle.corbelnib.proofs.Calls.{is-answer}
 use Rattle.corbelnib.proofs.Returning as returning
 use Rattle.demands.specs.Calls.{replay, judge, Call, GoodBoard}
-use Rattle.demands.specs.Demand2.{Replays, tableIn, bringsList, handed, endOf}
+use Rattle.demands.specs.Demand2.{Replays, tableIn, handed, endOf}
 use Rattle.demands.proofs.Crossing.{good-asked}
 use Rattle.demands.proofs.Searching.{good-search, searching, same-number, sized}
 
@@ -78,8 +79,8 @@ module _ (t : Table) (f : Fair t) (room : List ℕ) where
 
 -- ---- the replay
 
-pub brought-answer : (n : ℕ) → leb n 2 ≡ true → isAnswer n ≡ true
-brought-answer n e = let h = leb-true n 2 e in ap (λ (b : Bool). b || eqb n 23) (le-leb n 4 (omega arith))
+pub brought-answer : (n : ℕ) → bringsList n ≡ true → isAnswer n ≡ true
+brought-answer n e = is-answer n (calls.brings-answer n e)
 
 module _ (c : Call judge) (brought : bringsList (c .number) ≡ true) where
   abbrev answers : isAnswer (c .number) ≡ true
@@ -90,8 +91,7 @@ module _ (c : Call judge) (brought : bringsList (c .number) ≡ true) where
   list-of =
       let s = searching c (c .input .board) refl answers in
       let n = same-number c (c .input .board) refl answers in
-      let h = leb-true (c .number) 2 brought in
-      calls.T1 s (sized c (c .input .board) refl answers) (omega arith)
+      calls.T1 s (sized c (c .input .board) refl answers) (ap bringsList n ∙ brought)
 
   -- the table after it
   abbrev pub last : Table
@@ -156,3 +156,13 @@ module _ (c : Call judge) (r : Call replay) (p : Replays c r) where
       let answers = brought-answer (c .number) (p .brought) in
       ap (λ (t : Table). wonOn (t .foundation)) end-table
       ∙ list-of c (p .brought) .plays .wins (same-number c (c .input .board) refl answers ∙ e)
+
+  -- the number that the search's own call has
+  same-as : {n : ℕ} → c .number ≡ n → solver.number (searching c (c .input .board) refl (brought-answer (c .number) (p .brought))) ≡ n
+  same-as e = same-number c (c .input .board) refl (brought-answer (c .number) (p .brought)) ∙ e
+
+  pub end-finished : c .number ≡ 5 → wonOn (tableIn (endOf r) .foundation) ≡ true
+  end-finished e = ap (λ (t : Table). wonOn (t .foundation)) end-table ∙ list-of c (p .brought) .plays .finishes (same-as e)
+
+  pub end-unfinished : c .number ≡ 1 → wonOn (tableIn (endOf r) .foundation) ≡ false
+  end-unfinished e = ap (λ (t : Table). wonOn (t .foundation)) end-table ∙ list-of c (p .brought) .plays .unfinished (same-as e)

@@ -29,10 +29,10 @@ use Rattle.demands.proofs.Crossing.{Keeps, apart, hands-back, refuses, 
 -- ---- an answer's number
 
 pub answer-is : (n : ℕ) → isAnswer n ≡ true → solver.IsAnswer n
-answer-is n e = by (leb n 4) refl
+answer-is n e = by (leb n 5) refl
   where
-    by : (b : Bool) → leb n 4 ≡ b → solver.IsAnswer n
-    by true q = inl (leb-true n 4 q)
+    by : (b : Bool) → leb n 5 ≡ b → solver.IsAnswer n
+    by true q = inl (leb-true n 5 q)
     by false q = inr (eqb-true n 23 (ap (λ (b : Bool). b || eqb n 23) (sym q) ∙ e))
 
 -- ---- demand 1

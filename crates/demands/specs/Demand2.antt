@@ -4,10 +4,9 @@
 -- original Rust on random boards, deals, boards that meet the depth limit and damaged input (README tells how), and the gate runs a
 -- sample of the same (crates oracle_boards, oracle_moves, oracle_signatures, oracle_scores, oracle_judge, oracle_calls and texts).
 use mathlib.Core.Path.{_≡_}
-use mathlib.Core.Bool.{Bool, true}
+use mathlib.Core.Bool.{true}
 use mathlib.Core.List.{List, []}
 use Prim.Native.Nat.{ℕ, _*_, _≤_}
-use lib.Dec.{leb}
 use lib.ListN.{length, getD, take}
 use Rattle.base.specs.Answer.{given}
 use Rattle.base.specs.Words.{all, listed}
@@ -26,6 +25,7 @@ use Rattle.score.specs.Features.{featuresOf}
 use Rattle.score.specs.Scores.{heuristic, progress}
 use Rattle.candidates.specs.Candidates.{candidates as tried}
 use Rattle.search.specs.Solve.{Answer}
+use Rattle.search.specs.Claims.{bringsList}
 use Rattle.search.specs.Freecell.{freecell, judge as search-of}
 use Rattle.solver.specs.Searched.{movesOf}
 use Rattle.corbelnib.specs.Wire.{boardRoom, boardIn}
@@ -58,11 +58,7 @@ pub record Answers (c : Call judge) (a : Answer freecell) : Type 0 where
   pub moves : c .after .moves ≡ length (movesOf (a .list))
   pub list : c .after .list ≡ written (c .before .list) 0 (movesOf (a .list))
 
--- 0, 1 and 2 bring a list
-abbrev pub bringsList : ℕ → Bool
-bringsList n = leb n 2
-
--- its bytes: five a move, from the start of the list buffer
+-- the bytes of a list: five a move, from the start of the list buffer
 abbrev pub handed : Call judge → List ℕ
 handed c = take (c .after .moves * 5) (c .after .list)
 

@@ -23,9 +23,9 @@ isWon n = eqb n 0
 abbrev pub isExhausted : ℕ → Bool
 isExhausted n = eqb n 2 || eqb n 4
 
--- after the limit, or after exhaustion
+-- after the limit, whether it ends won (5) or not (1), or after exhaustion
 abbrev pub isBestProgress : ℕ → Bool
-isBestProgress n = eqb n 1 || eqb n 2
+isBestProgress n = (eqb n 1 || eqb n 5) || eqb n 2
 
 -- accepted: answered, and not refused
 abbrev pub Accepted : Call judge → Type 0

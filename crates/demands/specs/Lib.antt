@@ -7,3 +7,4 @@ pub mod Demand3
 pub mod HandsByNumber
 pub mod WhyRefused
 pub mod LinesOnPaper
+pub mod BestLine

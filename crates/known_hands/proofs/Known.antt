@@ -33,7 +33,7 @@ use Rattle.search.specs.Freecell.{judge}
 use Rattle.search.proofs.Opened.{opened as searching}
 use Rattle.known_hands.specs.Boards.{keep, share, laid, buried, T, crowded, isBoard}
 use Rattle.known_hands.specs.Hands.{sameScore, sameBytes, sameAnswer, forEach, holds, allHold, hands}
-use Rattle.known_hands.specs.Hands.{P1, P2, P3, P4, P5, P6, P7, P8, P9, P10-into, P10-elsewhere, P11-safe, P11-spades, P11-diamonds}
+use Rattle.known_hands.specs.Hands.{P1, P2, P3, P4, P4-partial, P5, P6, P7, P8, P9, P10-into, P10-elsewhere, P11-safe, P11-spades, P11-diamonds}
 
 opened : Unit {0}
 unfolding xor every all occurs listed concat sum isValue codeOf isCard cardOf suitAt cardAt pile piles held cardsOn isCell onlyCards isFair homeCount emptyCells emptyColumns wonOn red follows fitsOn homeTakes isRun runLength usable mostMoved recordOf lastOf othersOf hand without afterMove takes allowed afterMoves offered ifAllowed gather foundBetween foundFrom found bytesOf placed rising xorDigits fnvStep fnvFrom fnv homeWords columnHashes wordsOf signed signatureOf greatest least lastGoesHome immediateOn blockedIn blockedOn imbalanceOf cellsUsed longestRun featuresOf heuristic progress heuristicKey progressKey priorityAdds priorityTakes priority priorityOn redSuit needed safe chosen isSafe homeMoves firstOf firstSafe chainOf chain better worthwhile isUnsafe lateMoves tried ranked inOrder candidates childMoves childTable searching judge keep share laid buried T crowded isBoard sameScore sameBytes sameAnswer forEach holds
@@ -54,6 +54,10 @@ P3-holds = refl
 pub P4-holds : holds P4 ≡ true
 unfolding opened
 P4-holds = refl
+
+pub P4-partial-holds : holds P4-partial ≡ true
+unfolding opened
+P4-partial-holds = refl
 
 pub P5-holds : holds P5 ≡ true
 unfolding opened
@@ -99,4 +103,4 @@ P11-diamonds-holds = refl
 pub known-hands : allHold hands ≡ true
 unfolding allHold hands
 known-hands =
-    both P1-holds (both P2-holds (both P3-holds (both P4-holds (both P5-holds (both P6-holds (both P7-holds (both P8-holds (both P9-holds (both P10-into-holds (both P10-elsewhere-holds (both P11-safe-holds (both P11-spades-holds (both P11-diamonds-holds (refl))))))))))))))
+    both P1-holds (both P2-holds (both P3-holds (both P4-holds (both P4-partial-holds (both P5-holds (both P6-holds (both P7-holds (both P8-holds (both P9-holds (both P10-into-holds (both P10-elsewhere-holds (both P11-safe-holds (both P11-spades-holds (both P11-diamonds-holds (refl)))))))))))))))

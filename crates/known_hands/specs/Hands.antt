@@ -1,4 +1,4 @@
--- The known hands P1 to P11 of SCOPE.md, as one table.
+-- The known hands P1 to P11 of SCOPE.md, and one of request (v), as one table.
 use mathlib.Core.Bool.{Bool, true, false, _&&_, xor, not}
 use mathlib.Core.List.{List, [], _∷_}
 use Prim.Native.Nat.{ℕ}
@@ -79,6 +79,9 @@ three = 50
 abbrev pub noPartial : List Bool
 noPartial = false ∷ []
 
+abbrev pub withPartial : List Bool
+withPartial = true ∷ []
+
 abbrev pub anyFlag : List Bool
 anyFlag = false ∷ true ∷ []
 
@@ -97,8 +100,15 @@ abbrev pub P4 : Hand
 P4 = record { board = S; question = judging 1 2 noPartial 3 1 none }
 
 -- the spade king goes home from column 0
+abbrev pub kingHome : List ℕ
+kingHome = 2 ∷ 0 ∷ 3 ∷ 1 ∷ 211 ∷ []
+
+-- request (v): the same with partial allowed, where the best line ends won
+abbrev pub P4-partial : Hand
+P4-partial = record { board = S; question = judging 1 2 withPartial 5 1 (some kingHome) }
+
 abbrev pub P5 : Hand
-P5 = record { board = S; question = judging 2 2 anyFlag 0 2 (some (2 ∷ 0 ∷ 3 ∷ 1 ∷ 211 ∷ [])) }
+P5 = record { board = S; question = judging 2 2 anyFlag 0 2 (some kingHome) }
 
 abbrev pub P6 : Hand
 P6 = record { board = S; question = judging 2 1 anyFlag 23 1 none }
@@ -128,4 +138,4 @@ abbrev pub P11-diamonds : Hand
 P11-diamonds = record { board = laid (2 ∷ 0 ∷ 2 ∷ 2 ∷ []); question = safely three false }
 
 unfoldable pub hands : List Hand
-hands = P1 ∷ P2 ∷ P3 ∷ P4 ∷ P5 ∷ P6 ∷ P7 ∷ P8 ∷ P9 ∷ P10-into ∷ P10-elsewhere ∷ P11-safe ∷ P11-spades ∷ P11-diamonds ∷ []
+hands = P1 ∷ P2 ∷ P3 ∷ P4 ∷ P4-partial ∷ P5 ∷ P6 ∷ P7 ∷ P8 ∷ P9 ∷ P10-into ∷ P10-elsewhere ∷ P11-safe ∷ P11-spades ∷ P11-diamonds ∷ []

@@ -10,9 +10,10 @@ use Rattle.base.specs.Words.{sum, all, occurs, listed, concat}
 use Rattle.card.specs.Card.{isCard}
 use Rattle.base.proofs.Words.{first, second, every-at, all-append, all-concat, getD-listed, occurs-append}
 use Rattle.base.proofs.Sums.{sum-same, sum-add, sum-all}
-use Rattle.board.specs.Table.{piles, held, cardsOn}
+use Rattle.board.specs.Table.{Table, piles, held, cardsOn}
 use Rattle.board.specs.Verdict.{onlyCards, noneTwice, verdictOn}
-use Rattle.board.specs.Record.{columnAt, shown}
+use Rattle.board.specs.Record.{columnAt, shown, boardOf}
+use Rattle.board.specs.Fair.{Fair}
 use Rattle.board.specs.Inner.{GoodPiles, Sound}
 use Rattle.board.specs.declared.Board.{Board}
 use Rattle.board.proofs.Tables.{held-each}
@@ -20,6 +21,8 @@ use Rattle.board.proofs.Verdicts.{good-shape}
 use Rattle.board.proofs.Soundness.{passed, sound-fine, sound-shape}
 use Rattle.board.proofs.Counting.{at-most-52}
 use Rattle.board.proofs.Fitting.{cards-on}
+use Rattle.board.proofs.Records.{shown-of-record}
+use Rattle.board.proofs.Fair.{fair-laid, fair-sound}
 use Rattle.questions.specs.Questions.{emptyCells}
 use Rattle.questions.proofs.Totals.{home-52}
 use Rattle.runs.specs.Run.{runLength}
@@ -150,3 +153,7 @@ module _ (b : Board) (s : Sound b) where
         empty = empty-at-most (listed 8 column);
         longest = longest-most;
       }
+
+-- the same of any fair table
+pub fair-bounded : (t : Table) → Fair t → Bounded (featuresOf t)
+fair-bounded t f = subst (λ (u : Table). Bounded (featuresOf u)) (shown-of-record t (fair-laid t f)) (bounded (boardOf t) (fair-sound t f))

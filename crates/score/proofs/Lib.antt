@@ -11,3 +11,4 @@ pub mod Digits
 pub mod Answering
 pub mod Examples
 pub mod Unique
+pub mod Winning

@@ -1,8 +1,10 @@
 -- The definition rule by rule, each evaluated on a tiny game. Most of these rules are held by no other theorem and no known hand.
-use mathlib.Core.Path.{_≡_, refl}
-use mathlib.Core.Bool.{false, true, cond}
+use mathlib.Core.Path.{_≡_, refl, sym, subst}
+use mathlib.Core.Bool.{Bool, false, true, cond}
 use mathlib.Core.List.{List, [], _∷_}
-use Prim.Native.Nat.{ℕ, _%_}
+use Prim.Native.Nat.{ℕ, _%_, _≤_}
+use native.Mathlib.Omega.{arith}
+use borrow.Author.Tests.{eq-eqb, eqb-true}
 use lib.Dec.{eqb}
 use lib.ListN.{getD, replicate}
 use Rattle.search.specs.Game.{Game}
@@ -104,3 +106,35 @@ first-best = refl
 pub none-better : solve (walk ([] ∷ (to 2 ∷ []) ∷ []) []) 1 1 9 true ≡ record { number = 3; list = none; pops = 1 }
 unfolding opened
 none-better = refl
+
+-- ---- a best line that finishes, and is lost: 4 is won, found at cost 2; its like, 9, which is not, is found at cost 1 after it, so that 4 is
+-- skipped when it is taken
+
+abbrev blurred : Game
+blurred = walk ((far 4 2 ∷ to 9 ∷ []) ∷ []) []
+
+pub finishing : solve blurred 0 1 9 true ≡ record { number = 5; list = some (replicate 2 (far 4 2)); pops = 1 }
+unfolding opened
+finishing = refl
+
+pub finishing-lost : solve blurred 0 9 9 true ≡ record { number = 2; list = some (replicate 2 (far 4 2)); pops = 3 }
+unfolding opened
+finishing-lost = refl
+
+-- though the game keeps both laws that stand behind `finishes` (Finishing.antt): a place is like itself, and none is better than 4
+pub like-itself : (b : ℕ) → blurred .same b b ≡ true
+like-itself b = eq-eqb (b % 5) (b % 5) refl
+
+pub none-above : (b c : ℕ) → blurred .won b ≡ true → blurred .progress c ≤ blurred .progress b
+none-above b c e =
+    let q = eqb-true b 4 e in
+    subst (λ (n : ℕ). blurred .progress c ≤ cond (eqb n 0) 0 1) (sym q) (at-most (eqb c 0))
+  where
+    at-most : (t : Bool) → cond t 0 1 ≤ 1
+    at-most true = omega arith
+    at-most false = omega arith
+
+-- the flag alone brings it
+pub finishing-unasked : solve blurred 0 1 9 false ≡ record { number = 3; list = none; pops = 1 }
+unfolding opened
+finishing-unasked = refl

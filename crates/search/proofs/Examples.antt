@@ -31,8 +31,8 @@ pub not-when-generated : solve countdown 1 1 2 false ≡ answered 3 none 1
 unfolding opened
 not-when-generated = refl
 
--- with partial allowed its line is the best progress
-pub best-is-won : solve countdown 1 1 2 true ≡ answered 1 (some (1 ∷ [])) 1
+-- with partial allowed its line is the best progress, and ends won
+pub best-is-won : solve countdown 1 1 2 true ≡ answered 5 (some (1 ∷ [])) 1
 unfolding opened
 best-is-won = refl
 

@@ -10,6 +10,8 @@ use lib.Dec.{ltb}
 use Rattle.search.specs.Game.{Game, Laws, among}
 use Rattle.search.specs.Solve.{Perhaps, some, Node, State, End, won, limit, exhausted, outOfNodesAt, Answer}
 use Rattle.search.specs.Solve.{atLimit, whenExhausted, bestExhausted, better, start, childOf, dropped, bearing, taken, run, brings, bestAtLimit, progressed, answer, solveAs, solve}
+use Rattle.search.specs.Claims.{isBestAtLimit, isBest}
+use Rattle.search.proofs.Numbers.{limit-said, not-at-limit, not-best}
 use Rattle.search.proofs.Later.{Fixed, stays, goes-on}
 use Rattle.search.proofs.Kept.{EndKept, kept}
 use Rattle.search.proofs.Lines.{Fine, BestFine, best-fine}
@@ -33,10 +35,17 @@ module _ (G : Game) where
   not-stuck (inr (inl e)) = omega arith
   not-stuck (inr (inr e)) = omega arith
 
+  -- no best-progress list at the limit is won or exhausted
+  not-fixed : {n : ℕ} → isBestAtLimit n → isFixed n → ⊥
+  not-fixed (inl e) (inl f) = omega arith
+  not-fixed (inl e) (inr (inl f)) = omega arith
+  not-fixed (inl e) (inr (inr f)) = omega arith
+  not-fixed (inr e) (inl f) = omega arith
+  not-fixed (inr e) (inr (inl f)) = omega arith
+  not-fixed (inr e) (inr (inr f)) = omega arith
+
   limit-number : (t : Bool) (s : State G) → isFixed (progressed G t (bestAtLimit G s) atLimit s .number) → ⊥
-  limit-number true s (inl e) = omega arith
-  limit-number true s (inr (inl e)) = omega arith
-  limit-number true s (inr (inr e)) = omega arith
+  limit-number true s f = not-fixed (limit-said (G .won (s .best .board)) refl) f
   limit-number false s (inl e) = omega arith
   limit-number false s (inr (inl e)) = omega arith
   limit-number false s (inr (inr e)) = omega arith
@@ -161,9 +170,8 @@ module _ (G : Game) (L : Laws G) (b : G .Board) (good : L .Good b) where
 
   module _ {a c x y : ℕ} (h : a ≤ x) (k : c ≤ y) (p : Bool) (l m : List (G .Move)) (d e : G .Board) (leads : L .Leads b l d) (leads′ : L .Leads b m e) where
     last : (u : State G) → run G a c (start G b) ≡ limit u → answer G p (limit u) .list ≡ some l → (r : End G) → run G x y (start G b) ≡ r
-        → (answer G p r .number ≡ 1) ⊎ (answer G p r .number ≡ 2) → answer G p r .list ≡ some m → G .progress d ≤ G .progress e
-    last u small q (won n i) large (inl j) t = absurd (let w : ⊥ = omega arith in w)
-    last u small q (won n i) large (inr j) t = absurd (let w : ⊥ = omega arith in w)
+        → isBest (answer G p r .number) → answer G p r .list ≡ some m → G .progress d ≤ G .progress e
+    last u small q (won n i) large j t = absurd (not-best {n = 0} (λ z. omega arith) (λ z. omega arith) (λ z. omega arith) j)
     last u small q (limit v) large j t =
         let g = limit-grows G h k (start G b) u small v large in
         let f = best-board u (brings G p u) (bestAtLimit G u) atLimit l d (subst (BestFine G L b) small (best-fine G L b good a c)) q leads in
@@ -174,35 +182,34 @@ module _ (G : Game) (L : Laws G) (b : G .Board) (good : L .Good b) where
         let f = best-board u (brings G p u) (bestAtLimit G u) atLimit l d (subst (BestFine G L b) small (best-fine G L b good a c)) q leads in
         let f′ = best-board v (brings G p v) bestExhausted whenExhausted m e (subst (BestFine G L b) large (best-fine G L b good x y)) t leads′ in
         omega arith
-    last u small q (outOfNodesAt n) large (inl j) t = absurd (let w : ⊥ = omega arith in w)
-    last u small q (outOfNodesAt n) large (inr j) t = absurd (let w : ⊥ = omega arith in w)
+    last u small q (outOfNodesAt n) large j t = absurd (not-best {n = 23} (λ z. omega arith) (λ z. omega arith) (λ z. omega arith) j)
 
-    first : (r : End G) → run G a c (start G b) ≡ r → answer G p r .number ≡ 1 → answer G p r .list ≡ some l
-        → (answer G p (run G x y (start G b)) .number ≡ 1) ⊎ (answer G p (run G x y (start G b)) .number ≡ 2)
+    first : (r : End G) → run G a c (start G b) ≡ r → isBestAtLimit (answer G p r .number) → answer G p r .list ≡ some l
+        → isBest (answer G p (run G x y (start G b)) .number)
         → answer G p (run G x y (start G b)) .list ≡ some m → G .progress d ≤ G .progress e
-    first (won n i) small j q large t = absurd (let w : ⊥ = omega arith in w)
+    first (won n i) small j q large t = absurd (not-at-limit {n = 0} (λ z. omega arith) (λ z. omega arith) j)
     first (limit u) small j q large t = last u small q (run G x y (start G b)) refl large t
     first (exhausted u) small j q large t = two-or-four (brings G p u) u j
       where
-        two-or-four : (v : Bool) (u : State G) → progressed G v bestExhausted whenExhausted u .number ≡ 1 → G .progress d ≤ G .progress e
-        two-or-four true u j = absurd (let w : ⊥ = omega arith in w)
-        two-or-four false u j = absurd (let w : ⊥ = omega arith in w)
-    first (outOfNodesAt n) small j q large t = absurd (let w : ⊥ = omega arith in w)
+        two-or-four : (v : Bool) (u : State G) → isBestAtLimit (progressed G v bestExhausted whenExhausted u .number) → G .progress d ≤ G .progress e
+        two-or-four true u j = absurd (not-at-limit {n = 2} (λ z. omega arith) (λ z. omega arith) j)
+        two-or-four false u j = absurd (not-at-limit {n = 4} (λ z. omega arith) (λ z. omega arith) j)
+    first (outOfNodesAt n) small j q large t = absurd (not-at-limit {n = 23} (λ z. omega arith) (λ z. omega arith) j)
 
-    by-start : (w : Bool) → solveAs G w b a c p .number ≡ 1 → solveAs G w b a c p .list ≡ some l
-        → (solveAs G w b x y p .number ≡ 1) ⊎ (solveAs G w b x y p .number ≡ 2) → solveAs G w b x y p .list ≡ some m → G .progress d ≤ G .progress e
-    by-start true j q large t = absurd (let w : ⊥ = omega arith in w)
+    by-start : (w : Bool) → isBestAtLimit (solveAs G w b a c p .number) → solveAs G w b a c p .list ≡ some l
+        → isBest (solveAs G w b x y p .number) → solveAs G w b x y p .list ≡ some m → G .progress d ≤ G .progress e
+    by-start true j q large t = absurd (not-at-limit {n = 0} (λ z. omega arith) (λ z. omega arith) j)
     by-start false j q large t = first (run G a c (start G b)) refl j q large t
 
     -- T3: where both bring a best-progress list, the score of the last board is no lower under the larger settings
-    pub progress-grows : solve G b a c p .number ≡ 1 → solve G b a c p .list ≡ some l
-        → (solve G b x y p .number ≡ 1) ⊎ (solve G b x y p .number ≡ 2) → solve G b x y p .list ≡ some m → G .progress d ≤ G .progress e
+    pub progress-grows : isBestAtLimit (solve G b a c p .number) → solve G b a c p .list ≡ some l
+        → isBest (solve G b x y p .number) → solve G b x y p .list ≡ some m → G .progress d ≤ G .progress e
     unfolding solve
     progress-grows j q large t = by-start (G .won b) j q large t
 
     -- T3: the same where the smaller settings were exhausted
-    pub never-lower : (solve G b a c p .number ≡ 1) ⊎ (solve G b a c p .number ≡ 2) → solve G b a c p .list ≡ some l
-        → (solve G b x y p .number ≡ 1) ⊎ (solve G b x y p .number ≡ 2) → solve G b x y p .list ≡ some m → G .progress d ≤ G .progress e
+    pub never-lower : isBest (solve G b a c p .number) → solve G b a c p .list ≡ some l
+        → isBest (solve G b x y p .number) → solve G b x y p .list ≡ some m → G .progress d ≤ G .progress e
     never-lower (inl j) q large t = progress-grows j q large t
     never-lower (inr j) q large t =
         let same = ap (λ (r : Answer G). r .list) (larger-settings G b a c x y p h k (inr (inl j))) in

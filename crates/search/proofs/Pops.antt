@@ -2,13 +2,14 @@
 use mathlib.Core.Path.{_≡_, refl, ap, subst}
 use mathlib.Core.Bool.{Bool, true, false}
 use mathlib.Core.List.{List, [], _∷_}
-use mathlib.Core.Logic.{_⊎_, inl, inr}
 use Prim.Native.Nat.{ℕ, zero, suc, _+_, _≤_}
 use native.Mathlib.Omega.{arith}
 use lib.Dec.{leb}
 use Rattle.search.specs.Game.{Game}
 use Rattle.search.specs.Solve.{Node, State, Grown, outOfNodes, grown, End, won, limit, exhausted, outOfNodesAt, Turn, over, again}
 use Rattle.search.specs.Solve.{MAX_DEPTH, atLimit, whenExhausted, bestExhausted, cost, differs, childOf, dropped, noRoom, bornAs, bear, bearing, thenGrow, expand, visitAs, visit, grownTurn, taken, onward, stopped, goOn, start, run, brings, bestAtLimit, progressed, answer, solveAs, solve}
+use Rattle.search.specs.Claims.{isLimit}
+use Rattle.search.proofs.Numbers.{not-limit}
 use Rattle.search.proofs.Later.{turn-limit}
 
 module _ (G : Game) where
@@ -131,25 +132,17 @@ module _ (G : Game) where
   unfolding solve
   pops-within b budget capacity p = by-start b budget capacity p (G .won b)
 
-  -- the limit is told by 1 or 3
-  abbrev pub isLimit : ℕ → Type 0
-  isLimit n = (n ≡ 1) ⊎ (n ≡ 3)
-
   exhausted-no-limit : {A : Type 0} (t : Bool) (s : State G) → isLimit (progressed G t bestExhausted whenExhausted s .number) → A
-  exhausted-no-limit true s (inl e) = absurd (let w : ⊥ = omega arith in w)
-  exhausted-no-limit true s (inr e) = absurd (let w : ⊥ = omega arith in w)
-  exhausted-no-limit false s (inl e) = absurd (let w : ⊥ = omega arith in w)
-  exhausted-no-limit false s (inr e) = absurd (let w : ⊥ = omega arith in w)
+  exhausted-no-limit true s e = absurd (not-limit {n = 2} (λ z. omega arith) (λ z. omega arith) (λ z. omega arith) e)
+  exhausted-no-limit false s e = absurd (not-limit {n = 4} (λ z. omega arith) (λ z. omega arith) (λ z. omega arith) e)
 
   module _ (b : G .Board) (budget capacity : ℕ) (p : Bool) where
     by-end : (e : End G) → run G budget capacity (start G b) ≡ e → isLimit (answer G p e .number) → answer G p e .pops ≡ budget
     unfolding start
-    by-end (won l n) q (inl e) = absurd (let w : ⊥ = omega arith in w)
-    by-end (won l n) q (inr e) = absurd (let w : ⊥ = omega arith in w)
+    by-end (won l n) q e = absurd (not-limit {n = 0} (λ z. omega arith) (λ z. omega arith) (λ z. omega arith) e)
     by-end (limit s) q e = let h = spent budget capacity (start G b) s q in let k = best-pops (brings G p s) (bestAtLimit G s) atLimit s in omega arith
     by-end (exhausted s) q e = exhausted-no-limit (brings G p s) s e
-    by-end (outOfNodesAt n) q (inl e) = absurd (let w : ⊥ = omega arith in w)
-    by-end (outOfNodesAt n) q (inr e) = absurd (let w : ⊥ = omega arith in w)
+    by-end (outOfNodesAt n) q e = absurd (not-limit {n = 23} (λ z. omega arith) (λ z. omega arith) (λ z. omega arith) e)
 
     -- T4: the limit strikes only when the budget is spent
     pub limit-spends : isLimit (solve G b budget capacity p .number) → solve G b budget capacity p .pops ≡ budget
@@ -157,6 +150,5 @@ module _ (G : Game) where
     limit-spends e = by-win (G .won b) e
       where
         by-win : (w : Bool) → isLimit (solveAs G w b budget capacity p .number) → solveAs G w b budget capacity p .pops ≡ budget
-        by-win true (inl e) = absurd (let w : ⊥ = omega arith in w)
-        by-win true (inr e) = absurd (let w : ⊥ = omega arith in w)
+        by-win true e = absurd (not-limit {n = 0} (λ z. omega arith) (λ z. omega arith) (λ z. omega arith) e)
         by-win false e = by-end (run G budget capacity (start G b)) refl e

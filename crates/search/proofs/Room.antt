@@ -9,6 +9,7 @@ use Rattle.search.specs.Game.{Game}
 use Rattle.search.specs.Solve.{none, Node, State, Grown, outOfNodes, grown, End, won, limit, exhausted, outOfNodesAt, Turn, over, again}
 use Rattle.search.specs.Solve.{MAX_DEPTH, atLimit, whenExhausted, bestExhausted, cost, differs, childOf, dropped, noRoom, bornAs, bear, thenGrow, expand, visitAs, visit, grownTurn, taken, onward, stopped, goOn, start, run, brings, bestAtLimit, progressed, answer, solveAs, solve}
 use Rattle.search.specs.Claims.{Expanded, NoNodeAmong, OutOfNodes}
+use Rattle.search.proofs.Numbers.{limit-said, not-at-limit}
 use Rattle.search.proofs.Later.{goes-on}
 
 module _ (G : Game) where
@@ -174,7 +175,7 @@ module _ (G : Game) where
   stuck-number p (limit s) q = by-list (brings G p s) q
     where
       by-list : (t : Bool) → progressed G t (bestAtLimit G s) atLimit s .number ≡ 23 → limit s ≡ outOfNodesAt (progressed G t (bestAtLimit G s) atLimit s .pops)
-      by-list true q = absurd (let w : ⊥ = omega arith in w)
+      by-list true q = absurd (not-at-limit {n = 23} (λ z. omega arith) (λ z. omega arith) (limit-said (G .won (s .best .board)) q))
       by-list false q = absurd (let w : ⊥ = omega arith in w)
   stuck-number p (exhausted s) q = by-list (brings G p s) q
     where

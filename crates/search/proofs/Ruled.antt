@@ -1,13 +1,16 @@
 -- FreeCell keeps the laws that the theorems rest on: well-formed tables are good, and legal moves lead to the table after them.
-use mathlib.Core.Path.{_≡_, sym, ap, _∙_, subst}
+use mathlib.Core.Path.{_≡_, refl, sym, ap, _∙_, subst}
 use mathlib.Core.List.{List, [], _∷_, _++_}
 use mathlib.Core.Logic.{inl, inr}
+use borrow.Author.Tests.{eq-eqb}
 use Rattle.board.specs.Table.{Table}
 use Rattle.board.specs.Fair.{Fair}
 use Rattle.moves.specs.declared.Move.{Move}
 use Rattle.replay.specs.Played.{afterMoves, Legal}
 use Rattle.replay.proofs.Legal.{after-none, after-append, legal-append}
 use Rattle.generate.specs.Found.{isIn}
+use Rattle.signature.specs.Signed.{signatureOf}
+use Rattle.score.proofs.Winning.{won-most}
 use Rattle.candidates.specs.Candidates.{candidates}
 use Rattle.candidates.specs.Inner.{Playable}
 use Rattle.candidates.proofs.Trying.{one-of-all, all-candidates}
@@ -48,4 +51,6 @@ freecell-laws =
       one-end = λ r q. sym (r .there) ∙ q .there;
       child-leads = λ t m f i. record { legal = child-legal t f m (playable t m f i); there = child-reached t m };
       child-good = λ t m f i. child-fair t f m (playable t m f i);
+      same-self = λ t. eq-eqb (signatureOf t) (signatureOf t) refl;
+      won-most = won-most;
     }

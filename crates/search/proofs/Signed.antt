@@ -1,5 +1,5 @@
 -- On well-formed boards the search's order by raised scores is the order by the signed scores themselves.
-use mathlib.Core.Path.{_≡_, refl, sym, ap, ap₂, _∙_, subst}
+use mathlib.Core.Path.{_≡_, refl, sym, ap, ap₂, _∙_}
 use mathlib.Core.Bool.{not, _&&_}
 use Prim.Native.Nat.{ℕ, suc, _+_, _-_, _<_, _≤_}
 use native.Mathlib.Omega.{arith}
@@ -9,22 +9,15 @@ use lib.Dec.{eqb, leb, ltb}
 use lib.IntN.{ℤ, pos, negsuc, subℕ, _+ℤ_}
 use lib.Signed.{leZ, ltZ}
 use Rattle.base.proofs.Words.{first, second, both, same-test}
-use Rattle.board.specs.Table.{Table}
-use Rattle.board.specs.Record.{boardOf}
-use Rattle.board.proofs.Records.{shown-of-record}
 use Rattle.board.specs.Fair.{Fair}
-use Rattle.board.proofs.Fair.{fair-laid, fair-sound}
 use Rattle.score.specs.Features.{Bounded, featuresOf}
 use Rattle.score.specs.Scores.{heuristic, heuristicBias, heuristicKey, progressKey}
 use Rattle.score.specs.declared.Features.{Features}
-use Rattle.score.proofs.Bounds.{bounded}
+use Rattle.score.proofs.Bounds.{fair-bounded}
 use Rattle.score.proofs.Keys.{sub-below, sub-above, raised, compared, heuristic-key, heuristic-order, progress-order}
 use Rattle.search.specs.Solve.{Node, cost, before, better}
 use Rattle.search.specs.Freecell.{freecell}
 use Rattle.search.specs.Signed.{equal, hopeOf, sumOf, beforeSigned, progressOf, betterSigned}
-
-pub fair-bounded : (t : Table) → Fair t → Bounded (featuresOf t)
-fair-bounded t f = subst (λ (u : Table). Bounded (featuresOf u)) (shown-of-record t (fair-laid t f)) (bounded (boardOf t) (fair-sound t f))
 
 -- ---- tests of order
 

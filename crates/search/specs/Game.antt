@@ -1,9 +1,9 @@
 -- What the search knows of a game, and no more.
 use mathlib.Core.Path.{_≡_}
-use mathlib.Core.Bool.{Bool}
+use mathlib.Core.Bool.{Bool, true}
 use mathlib.Core.List.{List, [], _∷_, _++_}
 use mathlib.Core.Logic.{_⊎_}
-use Prim.Native.Nat.{ℕ}
+use Prim.Native.Nat.{ℕ, _≤_}
 
 pub record Game : Type 1 where
   pub Board : Type 0
@@ -34,3 +34,7 @@ pub record Laws (G : Game) : Type 1 where
   pub one-end : {b c d : G .Board} {l : List (G .Move)} → Leads b l c → Leads b l d → c ≡ d
   pub child-leads : (b : G .Board) (m : G .Move) → Good b → among m (G .candidates b) → Leads b (G .childMoves b m) (G .childBoard b m)
   pub child-good : (b : G .Board) (m : G .Move) → Good b → among m (G .candidates b) → Good (G .childBoard b m)
+  -- a board counts as the same as itself
+  pub same-self : (b : G .Board) → G .same b b ≡ true
+  -- no good board has more progress than a won one
+  pub won-most : (b c : G .Board) → Good b → Good c → G .won b ≡ true → G .progress c ≤ G .progress b

@@ -10,7 +10,7 @@ use Rattle.search.specs.Game.{Game}
 abbrev pub MAX_DEPTH : ℕ
 MAX_DEPTH = 200
 
--- SCOPE.md's numbers: the limit without a list, exhausted without and with one (`bestAtLimit`, below, is the fourth)
+-- SCOPE.md's numbers: the limit without a list, exhausted without and with one (`bestSaid`, below, has those of the limit with one)
 abbrev pub atLimit : ℕ
 atLimit = 3
 
@@ -19,6 +19,11 @@ whenExhausted = 4
 
 abbrev pub bestExhausted : ℕ
 bestExhausted = 2
+
+-- the limit with a list: whether its last board is won
+abbrev pub bestSaid : Bool → ℕ
+bestSaid true = 5
+bestSaid false = 1
 
 -- something, or nothing
 pub data Perhaps (A : Type 0) : Type 0 where
@@ -198,7 +203,7 @@ module _ (G : Game) where
 
   -- what the answer at the limit is called when it brings a list
   abbrev pub bestAtLimit : State → ℕ
-  bestAtLimit s = 1
+  bestAtLimit s = bestSaid (G .won (s .best .board))
 
   -- with the best line, or without
   abbrev pub progressed : Bool → ℕ → ℕ → State → Answer

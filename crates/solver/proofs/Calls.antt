@@ -1,12 +1,12 @@
 -- T1 and T4 (search/proofs/Judge.antt) over the code: what holds of any call that keeps the promise of `solve`, whatever the scratch held.
 use mathlib.Core.Path.{_≡_, refl, sym, ap, ap₂, _∙_, subst}
-use mathlib.Core.Bool.{Bool, true, false}
+use mathlib.Core.Bool.{Bool, true, false, _||_}
 use mathlib.Core.List.{List, [], _∷_, _++_}
 use mathlib.Core.Logic.{_⊎_, inl, inr}
 use Prim.Native.Nat.{ℕ, _+_, _*_, _≤_}
 use native.Mathlib.Omega.{arith}
-use borrow.Author.Tests.{le-leb, lt-leb, leb-true}
-use lib.Dec.{leb}
+use borrow.Author.Tests.{leb-true, eqb-true}
+use lib.Dec.{eqb, leb}
 use lib.ListN.{length, take, drop}
 use lib.Seq.{take-at, drop-at}
 use Rattle.base.specs.Answer.{given, refused, unless}
@@ -23,10 +23,10 @@ use Rattle.moves.specs.declared.Move.{Move}
 use Rattle.moves.proofs.Saying.{one-move}
 use Rattle.moves.specs.Written.{bytesOf, written}
 use Rattle.moves.proofs.Writing.{record-long, bytes-long, written-none, written-long}
-use Rattle.search.specs.Solve.{Perhaps, some, none, State, End, won, limit, exhausted, outOfNodesAt, Answer, start, run, brings, progressed, answer, solveAs, solve}
+use Rattle.search.specs.Solve.{Perhaps, some, none, State, End, won, limit, exhausted, outOfNodesAt, Answer, bestSaid, start, run, brings, progressed, answer, solveAs, solve}
 use Rattle.search.specs.Freecell.{freecell, judge}
-use Rattle.search.specs.Claims.{isSome, OutOfNodes}
-use Rattle.search.specs.Played.{PlayedOut}
+use Rattle.search.specs.Claims.{isSome, bringsList, isBestAtLimit, isBest, isLimit, OutOfNodes, Struck}
+use Rattle.search.specs.Played.{endsWon, PlayedOut}
 use Rattle.search.proofs.Judge as proved
 use Rattle.memory.specs.Memory.{Memory, lent}
 use Rattle.solver.specs.Searched.{Outcome, outcome, movesOf, accepted, searchedBy, answeredWith, searched}
@@ -66,13 +66,17 @@ no-answer h (inl k) = let l = h .0 in omega arith
 no-answer h (inr k) = let l = h .1 in omega arith
 
 -- the definition answers with an answer's number
-progress-answer : (h : Bool) (with without : ℕ) (s : State freecell) → with ≤ 4 → without ≤ 4 → IsAnswer (progressed freecell h with without s .number)
+progress-answer : (h : Bool) (with without : ℕ) (s : State freecell) → with ≤ 5 → without ≤ 5 → IsAnswer (progressed freecell h with without s .number)
 progress-answer true with without s k l = inl k
 progress-answer false with without s k l = inl l
 
+said-small : (w : Bool) → bestSaid w ≤ 5
+said-small true = omega arith
+said-small false = omega arith
+
 end-answer : (partial : Bool) (e : End freecell) → IsAnswer (answer freecell partial e .number)
 end-answer partial (won l p) = inl (omega arith)
-end-answer partial (limit s) = progress-answer (brings freecell partial s) _ _ s (omega arith) (omega arith)
+end-answer partial (limit s) = progress-answer (brings freecell partial s) _ _ s (said-small (wonOn (s .best .board .foundation))) (omega arith)
 end-answer partial (exhausted s) = progress-answer (brings freecell partial s) _ _ s (omega arith) (omega arith)
 end-answer partial (outOfNodesAt p) = inr refl
 
@@ -89,13 +93,23 @@ won-or-exhausted (inl e) = inl (omega arith)
 won-or-exhausted (inr (inl e)) = inl (omega arith)
 won-or-exhausted (inr (inr e)) = inl (omega arith)
 
-at-limit : {n : ℕ} → (n ≡ 1) ⊎ (n ≡ 3) → IsAnswer n
-at-limit (inl e) = inl (omega arith)
+at-limit : {n : ℕ} → isLimit n → IsAnswer n
+at-limit (inl (inl e)) = inl (omega arith)
+at-limit (inl (inr e)) = inl (omega arith)
 at-limit (inr e) = inl (omega arith)
 
-pub best-progress : {n : ℕ} → (n ≡ 1) ⊎ (n ≡ 2) → n ≤ 2
-best-progress (inl e) = omega arith
-best-progress (inr e) = omega arith
+pub best-progress : {n : ℕ} → isBest n → bringsList n ≡ true
+best-progress (inl (inl e)) = ap bringsList e
+best-progress (inl (inr e)) = ap bringsList e
+best-progress (inr e) = ap bringsList e
+
+-- who brings a list is an answer
+pub brings-answer : (n : ℕ) → bringsList n ≡ true → IsAnswer n
+brings-answer n e = by (leb n 2) refl e
+  where
+    by : (t : Bool) → leb n 2 ≡ t → (t || eqb n 5) ≡ true → IsAnswer n
+    by true q h = inl (let k = leb-true n 2 q in omega arith)
+    by false q h = inl (let k = eqb-true n 5 h in omega arith)
 
 -- ---- what is accepted
 
@@ -250,17 +264,16 @@ module _ {b : Board} (c : Call b) where
     by-list none e h = true-or-not false h refl
     by-list (some l) e h = hands-over l e
 
-  some-list : Accepted c → number c ≤ 2 → isSome (sought .list) ≡ true
-  some-list a h =
-      let n = gives a .number in
-      proved.T1-list (shown b) (c .budget) (capacity c) (c .partial) ∙ le-leb (sought .number) 2 (omega arith)
+  pub some-list : Accepted c → bringsList (number c) ≡ true → isSome (sought .list) ≡ true
+  some-list a h = proved.T1-list (shown b) (c .budget) (capacity c) (c .partial) ∙ ap bringsList (sym (gives a .number)) ∙ h
 
-  -- 0, 1 and 2: the first bytes of the list buffer are the records of a list that can be played from the board, move by move, and
-  -- replays; it has at most 200 moves; all 52 cards are still there after it; if the hand is called won, it is. The bytes beyond
-  -- stay. (The type of a board record always gives `Sized`.)
-  pub T1 : Sized b → number c ≤ 2 → HandsOver c
+  -- 0, 1, 2 and 5: the first bytes of the list buffer are the records of a list that can be played from the board, move by move, and
+  -- replays; it has at most 200 moves; all 52 cards are still there after it; if the hand is called won, it is, and at
+  -- the limit 5 says that the last board is won, 1 that it is not. The bytes beyond stay. (The type of a board record always gives
+  -- `Sized`.)
+  pub T1 : Sized b → bringsList (number c) ≡ true → HandsOver c
   T1 z h =
-      let a = answered-accepted (inl (omega arith)) in
+      let a = answered-accepted (brings-answer (number c) h) in
       by-list z a (sought .list) refl (some-list a h)
 
   -- whatever list the bytes say is the definition's
@@ -271,7 +284,7 @@ module _ {b : Board} (c : Call b) where
       e ∙ ap (λ (k : List Move). some k)
       (one-list m (l .moves) (sym (ap length same) ∙ sym (gives a .moves) ∙ l .many) (ap bytesOf (sym same) ∙ sym (handed-is a) ∙ l .bytes))
 
-  pub list-is : Accepted c → number c ≤ 2 → (l : HandsOver c) → sought .list ≡ some (l .moves)
+  pub list-is : Accepted c → bringsList (number c) ≡ true → (l : HandsOver c) → sought .list ≡ some (l .moves)
   list-is a h l = list-by (sought .list) refl (some-list a h) a l
 
   -- the other answers, and the refusals, leave the list buffer as it was
@@ -281,13 +294,12 @@ module _ {b : Board} (c : Call b) where
       record { many = g .moves ∙ ap (λ (p : Perhaps (List Move)). length (movesOf p)) e; same = g .list ∙ ap (λ (p : Perhaps (List Move)). written (c .list) 0 (movesOf p)) e ∙ written-none (c .list) 0 }
   no-list (some l) e h a = true-or-not true refl h
 
-  no-list-by : (v : Verdict) → verdict c ≡ v → 3 ≤ number c → NoList c
+  no-list-by : (v : Verdict) → verdict c ≡ v → bringsList (number c) ≡ false → NoList c
   no-list-by (given u) e h =
-      let n = gives e .number in
-      no-list (sought .list) refl (proved.T1-list (shown b) (c .budget) (capacity c) (c .partial) ∙ lt-leb (sought .number) 2 (omega arith)) e
+      no-list (sought .list) refl (proved.T1-list (shown b) (c .budget) (capacity c) (c .partial) ∙ ap bringsList (sym (gives e .number)) ∙ h) e
   no-list-by (refused n) e h = turned e .1 .none
 
-  pub T1-none : 3 ≤ number c → NoList c
+  pub T1-none : bringsList (number c) ≡ false → NoList c
   T1-none = no-list-by (verdict c) refl
 
   -- ---- T4: pops, the limit, and 23
@@ -301,10 +313,10 @@ module _ {b : Board} (c : Call b) where
   T4-pops = pops-by (verdict c) refl
 
   -- the limit is told only when the budget is spent
-  pub T4-limit : (number c ≡ 1) ⊎ (number c ≡ 3) → c .result .pops ≡ c .budget
+  pub T4-limit : isLimit (number c) → c .result .pops ≡ c .budget
   T4-limit f =
       let g = gives (answered-accepted (at-limit f)) in
-      g .pops ∙ proved.T4-limit (shown b) (c .budget) (capacity c) (c .partial) (subst (λ (n : ℕ). (n ≡ 1) ⊎ (n ≡ 3)) (g .number) f)
+      g .pops ∙ proved.T4-limit (shown b) (c .budget) (capacity c) (c .partial) (subst isLimit (g .number) f)
 
   -- 23 is given only when a child passes the depth and cost tests and the nodes already fill the capacity
   pub T4-no-room-only-then : number c ≡ 23
@@ -321,3 +333,25 @@ module _ {b : Board} (c : Call b) where
       let g = gives a in
       let e = proved.T4-no-room-always-then (shown b) (c .budget) (capacity c) (c .partial) pops w r in
       (g .number ∙ ap (λ (x : Answer freecell). x .number) e, g .pops ∙ ap (λ (x : Answer freecell). x .pops) e)
+
+  -- ---- T5: a best line that finishes
+
+  -- 1 and 5 are given with the flag alone
+  pub T5-flag : isBestAtLimit (number c) → c .partial ≡ true
+  T5-flag f =
+      let g = gives (answered-accepted (at-limit (inl f))) in
+      proved.T5-flag (shown b) (c .budget) (capacity c) (c .partial) (subst isBestAtLimit (g .number) f)
+
+  -- 5 is given where 1 was before request (v) and the last board of the list is won ..
+  pub T5-then : Sized b → Accepted c → Struck freecell (shown b) (c .budget) (capacity c) (c .partial) → (l : HandsOver c)
+      → endsWon (shown b) (l .moves) ≡ true → number c ≡ 5
+  T5-then z a r l w =
+      let n = gives a .number in
+      let h = best-progress (inl (subst isBestAtLimit (sym n) (proved.T5-brings (shown b) (c .budget) (capacity c) (c .partial) r))) in
+      n ∙ proved.T5-then b (sound-here z a) (c .budget) (capacity c) (c .partial) (l .moves) (list-is a h l) r w
+
+  -- .. and 1 and 5 only where 1 was; what they say of the last board is T1
+  pub T5-struck : isBestAtLimit (number c) → Struck freecell (shown b) (c .budget) (capacity c) (c .partial)
+  T5-struck f =
+      let g = gives (answered-accepted (at-limit (inl f))) in
+      proved.T5-struck (shown b) (c .budget) (capacity c) (c .partial) (subst isBestAtLimit (g .number) f)

@@ -1,5 +1,5 @@
 -- The answer: its number, its pops, its list.
-use mathlib.Core.Path.{_≡_, refl, sym, subst}
+use mathlib.Core.Path.{_≡_, refl, sym, ap, _∙_, subst}
 use mathlib.Core.Bool.{Bool, true, false, not, _&&_}
 use mathlib.Core.List.{List}
 use Prim.Native.Nat.{ℕ, _<_, _≤_}
@@ -7,12 +7,19 @@ use native.Mathlib.Omega.{arith}
 use borrow.Author.Tests.{eq-eqb, ne-eqb}
 use lib.Dec.{eqb}
 use Rattle.board.specs.Table.{Table}
+use Rattle.board.specs.Record.{shown, boardOf}
+use Rattle.board.specs.Inner.{Sound}
+use Rattle.board.specs.declared.Board.{Board}
+use Rattle.board.proofs.Fair.{shows-fair}
+use Rattle.questions.specs.Questions.{wonOn}
+use Rattle.questions.proofs.Asking.{shown-foundation}
 use Rattle.moves.specs.declared.Move.{Move}
 use Rattle.moves.proofs.Writing.{written-none}
-use Rattle.nodes.specs.Line.{lineTo}
+use Rattle.nodes.specs.Line.{lineTo, tableTo}
 use Rattle.nodes.specs.Nodes.{Nodes}
+use Rattle.nodes.proofs.Reaching.{node-shown}
 use Rattle.search.specs.Freecell.{freecell}
-use Rattle.search.specs.Solve.{progressed, answer}
+use Rattle.search.specs.Solve.{bestSaid, progressed, answer}
 use Rattle.memory.specs.declared.Room.{Room}
 use Rattle.memory.specs.declared.Counts.{Counts}
 use Rattle.memory.specs.declared.Ended.{Ended}
@@ -21,9 +28,9 @@ use Rattle.memory.specs.Memory.{Memory}
 use Rattle.memory.specs.View.{nodeOf, stateOf, endOf}
 use Rattle.solver.specs.Searched.{saidNumber}
 use Rattle.solver.specs.declared.Said.{Said}
-use Rattle.solver.specs.declared.Said.the-variants.{BestAtLimit, BestExhausted, Limit, Exhausted}
+use Rattle.solver.specs.declared.Said.the-variants.{BestAtLimit, BestExhausted, Limit, Exhausted, BestIsWon}
 use Rattle.solver.specs.declared.Judged.{Judged}
-use Rattle.solver.specs.Inner.{Closed, Gives, lineOr, answerBy}
+use Rattle.solver.specs.Inner.{Closed, Gives, lineOr, limitSaid, answerBy}
 
 -- no list: nothing is written
 pub gives-none : (without with : Said) (l : List Move) (pops : ℕ) (old : List ℕ)
@@ -52,6 +59,26 @@ pub gives-nothing : (with without : Said) (l : List Move) (pops : ℕ) (old : Li
 gives-nothing with without l pops old q =
     subst (λ (x : Bool). Gives (lineOr x with without l pops) old old (record { said = without; pops = pops; moves = 0 })) (sym q) (gives-none without with l pops old)
 
+-- ---- what the best line is called at the limit
+
+module _ {root : Board} (s : Sound root) {words : List ℕ} {n i : ℕ} (nodes : Nodes (shown root) words n) (h : i < n)
+    {b : Board} (e : b ≡ boardOf (tableTo (shown root) words i)) {w : Bool} (q : w ≡ wonOn (b .foundation)) where
+  -- the board of the node is asked
+  last-won : wonOn (tableTo (shown root) words i .foundation) ≡ w
+  last-won =
+      sym (q ∙ ap wonOn (shown-foundation b) ∙ ap (λ (t : Table). wonOn (t .foundation)) (ap shown e ∙ node-shown nodes i h (shows-fair s)))
+
+  pub said-finished : w ≡ true → BestIsWon ≡ limitSaid (wonOn (tableTo (shown root) words i .foundation))
+  said-finished t = sym (ap limitSaid (last-won ∙ t))
+
+  pub said-unfinished : w ≡ false → BestAtLimit ≡ limitSaid (wonOn (tableTo (shown root) words i .foundation))
+  said-unfinished t = sym (ap limitSaid (last-won ∙ t))
+
+-- with its name known
+pub gives-called : (b : Bool) {with called : Said} (without : Said) (l : List Move) (pops : ℕ) {old new : List ℕ} {r : Judged} → with ≡ called
+    → Gives (lineOr b with without l pops) old new r → Gives (lineOr b called without l pops) old new r
+gives-called b {with} {called} without l pops {old} {new} {r} q g = subst (λ (s : Said). Gives (lineOr b s without l pops) old new r) q g
+
 -- ---- how the search ended is known
 
 module _ {t : Table} {nodes : List ℕ} {e : Ended} where
@@ -77,9 +104,17 @@ module _ (t : Table) (r : Room) (m : Memory) (partial : Bool) where
   best-answer true with without c = refl
   best-answer false with without c = refl
 
+  limit-number : (w : Bool) → saidNumber (limitSaid w) ≡ bestSaid w
+  limit-number true = refl
+  limit-number false = refl
+
   pub answer-is : (e : Ended) → answerBy t (m .nodes) partial e ≡ answer freecell partial (endOf t r m e)
   unfolding stateOf nodeOf
   answer-is (ended.Won i c) = refl
-  answer-is (ended.Limit c) = best-answer (partial && not (eqb (c .best) 0)) BestAtLimit Limit c
+  answer-is (ended.Limit c) =
+      let w = wonOn (tableTo t (m .nodes) (c .best) .foundation) in
+      let b = partial && not (eqb (c .best) 0) in
+      best-answer b (limitSaid w) Limit c
+      ∙ ap (λ (n : ℕ). progressed freecell b n (saidNumber Limit) (stateOf t r m c)) (limit-number w)
   answer-is (ended.Exhausted c) = best-answer (partial && not (eqb (c .best) 0)) BestExhausted Exhausted c
   answer-is (ended.OutOfNodes p) = refl

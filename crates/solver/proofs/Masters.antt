@@ -1,6 +1,6 @@
--- T2 and T3 (search/proofs/Judge.antt) over the code: what holds of any two calls on one board that keep the promise of `solve`, whatever the scratch held.
+-- T2, T3 and T5 (search/proofs/Judge.antt) over the code: what holds of any two calls on one board that keep the promise of `solve`, whatever the scratch held.
 use mathlib.Core.Path.{_≡_, refl, sym, ap, _∙_, subst}
-use mathlib.Core.Bool.{Bool, true}
+use mathlib.Core.Bool.{Bool, true, false}
 use mathlib.Core.List.{List}
 use mathlib.Core.Logic.{_⊎_, inl, inr}
 use Prim.Native.Nat.{ℕ, _*_, _≤_}
@@ -8,6 +8,7 @@ use native.Mathlib.Omega.{arith}
 use lib.ListN.{length, take}
 use lib.Signed.{leZ}
 use Rattle.base.specs.Answer.{given, refused}
+use Rattle.base.proofs.Words.{true-or-not}
 use Rattle.board.specs.Verdict.{Verdict}
 use Rattle.board.specs.Record.{shown}
 use Rattle.board.specs.Inner.{Sized}
@@ -15,14 +16,16 @@ use Rattle.board.specs.declared.Board.{Board}
 use Rattle.board.specs.declared.Examined.the-variants as board
 use Rattle.moves.specs.declared.Move.{Move}
 use Rattle.moves.specs.Written.{bytesOf}
-use Rattle.search.specs.Solve.{Perhaps, Answer}
+use Rattle.search.specs.Solve.{Perhaps, none, some, Answer}
 use Rattle.search.specs.Freecell.{freecell, judge}
+use Rattle.search.specs.Claims.{isSome, bringsList, isBest}
+use Rattle.search.specs.Claims as search
 use Rattle.search.specs.Played.{finalScore}
 use Rattle.search.proofs.Judge as proved
 use Rattle.solver.specs.Searched.{movesOf, accepted}
-use Rattle.solver.specs.Told.{Call, number, capacity, verdict, Accepted, HandsOver, SameList, SameAnswer, SameSettings, NoLarger}
+use Rattle.solver.specs.Told.{Call, number, capacity, verdict, Accepted, HandsOver, SameList, SameAnswer, SameSettings, NoLarger, BorneBy, Becomes, wonThen, still, noRoomThen, exhaustedThen}
 use Rattle.solver.proofs.Accepting.{all-fine}
-use Rattle.solver.proofs.Calls.{won-or-exhausted, best-progress, asks, sought, gives, turned, answered-accepted, sound-here, handed-is, list-is}
+use Rattle.solver.proofs.Calls.{won-or-exhausted, best-progress, brings-answer, asks, sought, gives, turned, answered-accepted, sound-here, handed-is, list-is, some-list}
 
 module _ {b : Board} (x y : Call b) where
   alike : Accepted x → Accepted y → sought x .list ≡ sought y .list → SameList x y
@@ -117,13 +120,35 @@ module _ {b : Board} (x y : Call b) where
         (subst (λ (n : ℕ). (n ≡ 0) ⊎ ((n ≡ 2) ⊎ (n ≡ 4))) (gives x a .number) f))
 
     -- where both bring a best-progress list, the final score is no lower with the larger settings
-    pub T3-score : Sized b → (number x ≡ 1) ⊎ (number x ≡ 2) → (number y ≡ 1) ⊎ (number y ≡ 2)
+    pub T3-score : Sized b → isBest (number x) → isBest (number y)
         → (l : HandsOver x) (m : HandsOver y) → leZ (finalScore (shown b) (l .moves)) (finalScore (shown b) (m .moves)) ≡ true
     T3-score z i j l m =
-        let a = answered-accepted x (inl (let k = best-progress i in omega arith)) in
-        let d = answered-accepted y (inl (let k = best-progress j in omega arith)) in
+        let a = answered-accepted x (brings-answer (number x) (best-progress i)) in
+        let d = answered-accepted y (brings-answer (number y) (best-progress j)) in
         proved.T3-score b (sound-here x z a) (less .budget) (less .room) (x .partial) (l .moves) (m .moves)
-        (subst (λ (n : ℕ). (n ≡ 1) ⊎ (n ≡ 2)) (gives x a .number) i)
+        (subst isBest (gives x a .number) i)
         (list-is x a (best-progress i) l)
-        (subst (λ (n : ℕ). (n ≡ 1) ⊎ (n ≡ 2)) (gives y d .number ∙ ap (λ (r : Answer freecell). r .number) flagged) j)
+        (subst isBest (gives y d .number ∙ ap (λ (r : Answer freecell). r .number) flagged) j)
         (ap (λ (r : Answer freecell). r .list) (sym flagged) ∙ list-is y d (best-progress j) m)
+
+    -- ---- T5: a best line that finishes
+
+    becomes-by : Accepted x → Accepted y → (l : List Move) → sought x .list ≡ some l → search.Becomes freecell (BorneBy y) l (sought y) → Becomes x y
+    becomes-by a d l e (search.wonThen n) = wonThen (gives y d .number ∙ n)
+    becomes-by a d l e (search.still n m) = still (gives y d .number ∙ n) (alike a d (e ∙ sym m))
+    becomes-by a d l e (search.noRoomThen n) = noRoomThen (gives y d .number ∙ n)
+    becomes-by a d l e (search.exhaustedThen n m k) = exhaustedThen (gives y d .number ∙ n) (alike a d (e ∙ sym m)) k
+
+    with-list : Sized b → (a : Accepted x) → Accepted y → number x ≡ 5 → (p : Perhaps (List Move)) → sought x .list ≡ p → isSome p ≡ true → Becomes x y
+    with-list z a d e none q h = true-or-not false h refl
+    with-list z a d e (some l) q h =
+        becomes-by a d l q
+        (subst (search.Becomes freecell (BorneBy y) l) (sym flagged)
+        (proved.T5 b (sound-here x z a) (less .budget) (less .room) (x .partial) l (sym (gives x a .number) ∙ e) q))
+
+    -- 5 becomes 0, 5 with the same list, 23, or 2 with the same list, the last only where two boards of the run, one won and one not, share
+    -- a signature
+    pub T5 : Sized b → Accepted y → number x ≡ 5 → Becomes x y
+    T5 z d e =
+        let a = answered-accepted x (inl (omega arith)) in
+        with-list z a d e (sought x .list) refl (some-list x a (ap bringsList e))

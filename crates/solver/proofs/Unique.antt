@@ -11,7 +11,7 @@ use Rattle.board.proofs.Unique.{whyOf, why-law, never-said}
 use Rattle.memory.specs.Memory.{Memory, lent}
 use Rattle.solver.specs.Searched.{Outcome, outcome, saidNumber, searched}
 use Rattle.solver.specs.declared.Said.{Said}
-use Rattle.solver.specs.declared.Said.the-variants.{Won, BestAtLimit, BestExhausted, Limit, Exhausted, OutOfNodes, Refused}
+use Rattle.solver.specs.declared.Said.the-variants.{Won, BestAtLimit, BestExhausted, Limit, Exhausted, BestIsWon, OutOfNodes, Refused}
 use Rattle.solver.specs.declared.Judged.{Judged}
 use Rattle.solver.specs.Told.{Call}
 
@@ -19,7 +19,7 @@ use Rattle.solver.specs.Told.{Call}
 saidOf : ℕ → Said
 saidOf n =
     cond (isSaid n)
-    (cond (eqb n 0) Won (cond (eqb n 1) BestAtLimit (cond (eqb n 2) BestExhausted (cond (eqb n 3) Limit (cond (eqb n 4) Exhausted OutOfNodes)))))
+    (cond (eqb n 0) Won (cond (eqb n 1) BestAtLimit (cond (eqb n 2) BestExhausted (cond (eqb n 3) Limit (cond (eqb n 4) Exhausted (cond (eqb n 5) BestIsWon OutOfNodes))))))
     (Refused (whyOf n))
 
 -- no refusal has a number of these
@@ -27,7 +27,7 @@ why-said : (w : Refusal) → saidOf (numberOf w) ≡ Refused w
 unfolding saidOf
 why-said w =
     let n = numberOf w in
-    ap (λ (b : Bool). cond b (cond (eqb n 0) Won (cond (eqb n 1) BestAtLimit (cond (eqb n 2) BestExhausted (cond (eqb n 3) Limit (cond (eqb n 4) Exhausted OutOfNodes))))) (Refused (whyOf n))) (never-said w)
+    ap (λ (b : Bool). cond b (cond (eqb n 0) Won (cond (eqb n 1) BestAtLimit (cond (eqb n 2) BestExhausted (cond (eqb n 3) Limit (cond (eqb n 4) Exhausted (cond (eqb n 5) BestIsWon OutOfNodes)))))) (Refused (whyOf n))) (never-said w)
     ∙ ap Refused (why-law w)
 
 said-law : (s : Said) → saidOf (saidNumber s) ≡ s
@@ -37,6 +37,7 @@ said-law BestAtLimit = refl
 said-law BestExhausted = refl
 said-law Limit = refl
 said-law Exhausted = refl
+said-law BestIsWon = refl
 said-law OutOfNodes = refl
 said-law (Refused w) = why-said w
 

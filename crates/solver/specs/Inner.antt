@@ -10,11 +10,12 @@ use Rattle.board.specs.Table.{Table}
 use Rattle.board.specs.Record.{shown}
 use Rattle.board.specs.Inner.{Sound}
 use Rattle.board.specs.declared.Board.{Board}
+use Rattle.questions.specs.Questions.{wonOn}
 use Rattle.moves.specs.declared.Move.{Move}
 use Rattle.costs.specs.Table as costs
 use Rattle.costs.specs.Entries as entries
 use Rattle.nodes.specs.Step.{costAt, slotAt}
-use Rattle.nodes.specs.Line.{lineTo}
+use Rattle.nodes.specs.Line.{lineTo, tableTo}
 use Rattle.nodes.specs.Nodes.{Nodes}
 use Rattle.search.specs.Freecell.{freecell}
 use Rattle.search.specs.Solve.{some, none, State, End, Answer, start, visit, goOn, onward, run}
@@ -34,7 +35,7 @@ use Rattle.board.specs.declared.Examined.{Examined}
 use Rattle.board.specs.declared.Examined.the-variants.{WellFormed}
 use Rattle.solver.specs.Searched.{saidNumber, movesOf, accepted}
 use Rattle.solver.specs.declared.Said.{Said}
-use Rattle.solver.specs.declared.Said.the-variants.{Won, BestAtLimit, BestExhausted, Limit, Exhausted, OutOfNodes}
+use Rattle.solver.specs.declared.Said.the-variants.{Won, BestAtLimit, BestExhausted, Limit, Exhausted, BestIsWon, OutOfNodes}
 use Rattle.solver.specs.declared.Judged.{Judged}
 
 -- ---- one turn
@@ -109,10 +110,16 @@ abbrev pub lineOr : Bool → Said → Said → List Move → ℕ → Answer free
 lineOr true with without l pops = record { number = saidNumber with; list = some l; pops = pops }
 lineOr false with without l pops = record { number = saidNumber without; list = none; pops = pops }
 
+-- what a line is called at the limit, by whether its last board is won
+abbrev pub limitSaid : Bool → Said
+limitSaid true = BestIsWon
+limitSaid false = BestAtLimit
+
 -- what the answer to an ended search is, by the nodes alone
 abbrev pub answerBy : Table → List ℕ → Bool → Ended → Answer freecell
 answerBy t nodes partial (ended.Won i d) = lineOr true Won Won (lineTo t nodes i) (d .pops)
-answerBy t nodes partial (ended.Limit d) = lineOr (partial && not (eqb (d .best) 0)) BestAtLimit Limit (lineTo t nodes (d .best)) (d .pops)
+answerBy t nodes partial (ended.Limit d) =
+    lineOr (partial && not (eqb (d .best) 0)) (limitSaid (wonOn (tableTo t nodes (d .best) .foundation))) Limit (lineTo t nodes (d .best)) (d .pops)
 answerBy t nodes partial (ended.Exhausted d) = lineOr (partial && not (eqb (d .best) 0)) BestExhausted Exhausted (lineTo t nodes (d .best)) (d .pops)
 answerBy t nodes partial (ended.OutOfNodes p) = lineOr false OutOfNodes OutOfNodes [] p
 

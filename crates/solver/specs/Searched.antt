@@ -16,7 +16,7 @@ use Rattle.search.specs.Freecell.{freecell, judge}
 use Rattle.search.specs.Solve.{Perhaps, none, some, Answer}
 use Rattle.solver.specs.Capacity.{capacityOf}
 use Rattle.solver.specs.declared.Said.{Said}
-use Rattle.solver.specs.declared.Said.the-variants.{Won, BestAtLimit, BestExhausted, Limit, Exhausted, OutOfNodes, Refused}
+use Rattle.solver.specs.declared.Said.the-variants.{Won, BestAtLimit, BestExhausted, Limit, Exhausted, BestIsWon, OutOfNodes, Refused}
 use Rattle.solver.specs.declared.Judged.{Judged}
 
 -- SCOPE.md's number of each case
@@ -26,6 +26,7 @@ saidNumber BestAtLimit = 1
 saidNumber BestExhausted = 2
 saidNumber Limit = 3
 saidNumber Exhausted = 4
+saidNumber BestIsWon = 5
 saidNumber OutOfNodes = 23
 saidNumber (Refused why) = numberOf why
 

@@ -6,10 +6,14 @@ use mathlib.Core.Logic.{_⊎_}
 use Prim.Native.Nat.{ℕ, _*_, _≤_}
 use lib.ListN.{length, take, drop}
 use Rattle.board.specs.Verdict.{Verdict, fine}
+use Rattle.board.specs.Record.{shown}
 use Rattle.board.specs.declared.Board.{Board}
 use Rattle.moves.specs.declared.Move.{Move}
 use Rattle.moves.specs.Written.{bytesOf}
 use Rattle.base.specs.Blank.{blank}
+use Rattle.search.specs.Solve.{Node, start}
+use Rattle.search.specs.Freecell.{freecell}
+use Rattle.search.specs.Claims.{Borne, Clash}
 use Rattle.search.specs.Played.{PlayedOut}
 use Rattle.memory.specs.Memory.{Memory}
 use Rattle.solver.specs.Capacity.{capacityOf}
@@ -28,9 +32,9 @@ pub record Call (b : Board) : Type 0 where
   pub holds : outcome result (scratchAfter .nodes) (scratchAfter .heap) (scratchAfter .keys) (scratchAfter .costs) listAfter
       ≡ searched (scratch .nodes) (scratch .heap) (scratch .keys) (scratch .costs) list b budget partial
 
--- 0 to 4 and 23 are answers, the other numbers refusals
+-- 0 to 5 and 23 are answers, the other numbers refusals
 abbrev pub IsAnswer : ℕ → Type 0
-IsAnswer n = (n ≤ 4) ⊎ (n ≡ 23)
+IsAnswer n = (n ≤ 5) ⊎ (n ≡ 23)
 
 module _ {b : Board} where
   abbrev pub number : Call b → ℕ
@@ -106,3 +110,14 @@ module _ {b : Board} where
     pub budget : x .budget ≤ y .budget
     pub room : capacity x ≤ capacity y
     pub flag : x .partial ≡ y .partial
+
+  -- the nodes that the run of a call bears
+  abbrev pub BorneBy : Call b → Node freecell → Type 0
+  BorneBy c = Borne freecell (c .budget) (capacity c) (start freecell (shown b))
+
+  -- what y makes of the answer 5 of x
+  pub data Becomes (x y : Call b) : Type 0 where
+    wonThen : number y ≡ 0 → Becomes x y
+    still : number y ≡ 5 → SameList x y → Becomes x y
+    noRoomThen : number y ≡ 23 → Becomes x y
+    exhaustedThen : number y ≡ 2 → SameList x y → Clash freecell (BorneBy y) → Becomes x y

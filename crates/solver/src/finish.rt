@@ -7,8 +7,10 @@ ghost use lib.ListN.{length};
 ghost use Rattle.board.specs.Record.{shown};
 ghost use Rattle.board.specs.Inner.{Sound};
 ghost use Rattle.nodes.specs.Nodes.{Nodes};
-ghost use Rattle.nodes.specs.Line.{lineTo};
-ghost use Rattle.solver.specs.Inner.{Closed, Gives, lineOr, answerBy};
+ghost use Rattle.nodes.specs.Line.{lineTo, tableTo};
+ghost use Rattle.questions.specs.Questions.{wonOn};
+ghost use Rattle.memory.specs.declared.Ended.the-variants.{Limit};
+ghost use Rattle.solver.specs.Inner.{Closed, Gives, lineOr, limitSaid, answerBy};
 ghost use Rattle.moves.specs.Written.{listRoom};
 use crate::Judged;
 use crate::Said;
@@ -58,6 +60,32 @@ fn best_line(
     }
 }
 
+// What the best line is called at the limit, by its last board.
+fn best_said(root: Board, c: Counts, nodes: &[u32]) -> Said
+    requires { ⌜ Sound root ⌝ }
+    requires { ⌜ Nodes (shown root) (now nodes) (c .born) ⌝ }
+    requires { ⌜ c .best < c .born ⌝ }
+    ensures { λ r. ⌜ r ≡ limitSaid (wonOn (tableTo (shown root) (now (nodes .entry)) (c .best) .foundation)) ⌝ }
+{
+    let b = nodes::path::board_of(root, nodes, c.born, c.best);
+    if questions::won_at(&b.foundation) {
+        return Said::BestIsWon;
+    }
+    Said::BestAtLimit
+}
+
+// The answer at the limit.
+fn limit_line(root: Board, partial: bool, c: Counts, nodes: &[u32], list: &mut [u8]) -> Judged
+    requires { ⌜ Sound root ⌝ }
+    requires { ⌜ Nodes (shown root) (now nodes) (c .born) ⌝ }
+    requires { ⌜ c .best < c .born ⌝ }
+    requires { ⌜ listRoom ≤ length (now list) ⌝ }
+    ensures { λ r. ⌜ Gives (answerBy (shown root) (now (nodes .entry)) partial (Limit c)) (now (list .entry)) (now (list .exit)) r ⌝ }
+{
+    let with = best_said(root, c, nodes);
+    best_line(root, partial, with, Said::Limit, c, nodes, list)
+}
+
 // The answer of a search that has ended.
 pub fn finish(root: Board, partial: bool, e: Ended, nodes: &[u32], list: &mut [u8]) -> Judged
     requires { ⌜ Sound root ⌝ }
@@ -67,15 +95,7 @@ pub fn finish(root: Board, partial: bool, e: Ended, nodes: &[u32], list: &mut [u
 {
     match e {
         Ended::Won { node, counts } => with_line(root, Said::Won, node, counts, nodes, list),
-        Ended::Limit(c) => best_line(
-            root,
-            partial,
-            Said::BestAtLimit,
-            Said::Limit,
-            c,
-            nodes,
-            list,
-        ),
+        Ended::Limit(c) => limit_line(root, partial, c, nodes, list),
         Ended::Exhausted(c) => best_line(
             root,
             partial,

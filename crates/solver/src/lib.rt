@@ -31,6 +31,7 @@ pub enum Said {
     BestExhausted,
     Limit,
     Exhausted,
+    BestIsWon,
     OutOfNodes,
     Refused(Refusal),
 }
@@ -52,6 +53,7 @@ pub fn number(said: Said) -> u8
         Said::BestExhausted => 2,
         Said::Limit => 3,
         Said::Exhausted => 4,
+        Said::BestIsWon => 5,
         Said::OutOfNodes => 23,
         Said::Refused(why) => board::number(why),
     }

@@ -23,6 +23,9 @@ enum-told-5 c = search needs
 enum-told-6 : tie.Need-enum-told-6
 enum-told-6 c = search needs
 
+enum-told-7 : tie.Need-enum-told-7
+enum-told-7 c = search needs
+
 enum-known-said : tie.Need-enum-known-said
 enum-known-said c = search needs
 
@@ -48,7 +51,10 @@ returns-6 : tie.Need-returns-6
 returns-6 c = search needs
 
 returns-7 : tie.Need-returns-7
-returns-7 c = c .number .ensures ∙ ap saidNumber (sym (c .before .before .said .given .1))
+returns-7 c = search needs
+
+returns-8 : tie.Need-returns-8
+returns-8 c = c .number .ensures ∙ ap saidNumber (sym (c .before .before .said .given .1))
 
 pub number-spec : {M : Type 1} → statement M
 number-spec =
@@ -60,6 +66,7 @@ number-spec =
     enum-told-4
     enum-told-5
     enum-told-6
+    enum-told-7
     enum-known-said
     number-requires
     returns
@@ -68,4 +75,5 @@ number-spec =
     returns-4
     returns-5
     returns-6
-    returns-7)
+    returns-7
+    returns-8)
