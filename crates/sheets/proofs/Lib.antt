@@ -1,1 +1,4 @@
 -- Laws for the crates above.
+pub mod Reading
+pub mod Bits
+pub mod Covers
