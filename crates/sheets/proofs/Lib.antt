@@ -2,3 +2,6 @@
 pub mod Reading
 pub mod Bits
 pub mod Covers
+pub mod Overs
+pub mod Marks
+pub mod Joined

@@ -2,7 +2,7 @@
 use mathlib.Core.Bool.{Bool, cond, _&&_}
 use mathlib.Core.List.{List}
 use Prim.Native.Nat.{ℕ, zero, suc, min, _+_, _*_, _-_, _^_, _/_, _%_}
-use lib.Dec.{eqb, ltb}
+use lib.Dec.{eqb, leb, ltb}
 use lib.ListN.{getD}
 use Rattle.base.specs.Words.{sum}
 use Rattle.sheets.specs.Figures.{answersCounted, longestList, lastDeal, Side, shortest, longest, Figure, theBudget, theCapacity, theFlag, answers, allPops, markList, markDeal, lists, covers, wordsOf}
@@ -72,3 +72,7 @@ figureOver s r p (covers w) = sum 64 (λ b. cond (p (suc (64 * w + b))) (2 ^ b) 
 -- the sheet over the deal numbers that p holds of, each of which gave what r tells
 unfoldable pub sheetOver : Settings → (ℕ → Result) → (ℕ → Bool) → List ℕ
 sheetOver s r p = wordsOf (figureOver s r p)
+
+-- the numbers of a run of deals: none, if the first is above the last
+unfoldable pub between : ℕ → ℕ → ℕ → Bool
+between low high n = leb low n && leb n high
