@@ -42,7 +42,7 @@ both-bits true false x e = omega arith
 both-bits false b x e = omega arith
 
 -- the bits of two sets of deals, in one word
-covers-or :
+pub covers-or :
     (p q : ℕ → Bool) → ((i : ℕ) → i < 32000 → (p (suc i) && q (suc i)) ≡ false) → (w : ℕ) → w < 500
     → sum 64 (λ b. cond (p (suc (64 * w + b))) (2 ^ b) 0) + sum 64 (λ b. cond (q (suc (64 * w + b))) (2 ^ b) 0)
     ≡ sum 64 (λ b. cond (p (suc (64 * w + b)) || q (suc (64 * w + b))) (2 ^ b) 0)

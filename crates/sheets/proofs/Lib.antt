@@ -5,3 +5,4 @@ pub mod Covers
 pub mod Overs
 pub mod Marks
 pub mod Joined
+pub mod Entered

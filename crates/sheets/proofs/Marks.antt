@@ -70,6 +70,24 @@ unfolding least
 least-always zero = refl
 least-always (suc n) = let e = least-always n in omega arith
 
+-- one key alone
+pub least-one : (f : ℕ → ℕ) (n j : ℕ) → j < n → ((k : ℕ) → k < n → (k ≡ j → ⊥) → f k ≡ noKey) → least n f ≡ min (f j) noKey
+least-one f n j h others = by-case (least-is n f)
+  where
+    below : least n f ≤ f j
+    below = least-below n f j h
+
+    most : least n f ≤ noKey
+    most = least-none n f
+
+    by-case : (least n f ≡ noKey) ⊎ ((i : ℕ) × (i < n) × (least n f ≡ f i)) → least n f ≡ min (f j) noKey
+    by-case (inl q) = let b = below in omega arith
+    by-case (inr c) = here-or-not (ℕ-discrete (c .0) j)
+      where
+        here-or-not : Dec (c .0 ≡ j) → least n f ≡ min (f j) noKey
+        here-or-not (yes e) = let q = c .2 ∙ ap f e in let m = most in omega arith
+        here-or-not (no d) = let q = c .2 ∙ others (c .0) (c .1) d in let b = below in omega arith
+
 -- ---- the best key among some deals
 
 module _ (e : Side) (r : ℕ → Result) where
