@@ -6,3 +6,4 @@ pub mod Overs
 pub mod Marks
 pub mod Joined
 pub mod Entered
+pub mod Goodness
