@@ -7,3 +7,4 @@ pub mod Marks
 pub mod Joined
 pub mod Entered
 pub mod Goodness
+pub mod Sums
