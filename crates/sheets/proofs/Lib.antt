@@ -8,3 +8,4 @@ pub mod Joined
 pub mod Entered
 pub mod Goodness
 pub mod Sums
+pub mod Adding

@@ -111,15 +111,15 @@ key-added e a b =
 -- ---- the key of a good mark
 
 module _ (e : Side) (a : List ℕ) where
-  key-none : Unmarked e a → keyIn e a ≡ noKey
+  pub key-none : Unmarked e a → keyIn e a ≡ noKey
   unfolding keyIn
   key-none u = rw (u .deal) refl
 
-  key-some : Marked e a → keyIn e a ≡ keyOf e (told a (markList e)) (told a (markDeal e))
+  pub key-some : Marked e a → keyIn e a ≡ keyOf e (told a (markList e)) (told a (markDeal e))
   unfolding keyIn
   key-some k = let l = k .low in rw (ne-eqb (told a (markDeal e)) 0 (λ q. let w : ⊥ = omega arith in w)) refl
 
-  key-below : Marked e a → keyIn e a < noKey
+  pub key-below : Marked e a → keyIn e a < noKey
   key-below k =
       subst (λ (x : ℕ). x < noKey) (sym (key-some k)) (mark-below e (told a (markList e)) (told a (markDeal e)) (k .short) (k .low) (k .high))
 
