@@ -13,7 +13,8 @@ use Rattle.base.specs.Answer.{Answer, given, refused, unless}
 use Rattle.base.proofs.Answers.{given-by}
 use Rattle.base.proofs.Words.{first, second, both, true-or-not, not-so, same-test}
 use Rattle.base.proofs.Sums.{sum-same, sum-add, sum-part}
-use Rattle.sheets.specs.Figures.{Side, Figure, theBudget, theCapacity, theFlag, answers, allPops, markList, markDeal, lists, covers, told}
+use Rattle.sheets.specs.declared.Side.{Side}
+use Rattle.sheets.specs.Figures.{Figure, theBudget, theCapacity, theFlag, answers, allPops, markList, markDeal, lists, covers, told}
 use Rattle.sheets.specs.Over.{Settings, Result, over, behind, keyOf, noKey, keyList, keyDeal, figureOver, sheetOver, between}
 use Rattle.sheets.specs.Good.{covered, deals, wins, goodMark, goodSheet}
 use Rattle.sheets.specs.Adding.{flagOf, sameSettings, apart, keyIn, better, addedFigure, added, addAsked}
@@ -31,7 +32,6 @@ module _ (e : Side) (x y S : List ℕ) (gx : IsGood x) (gy : IsGood y) (first-is
     (list : told S (markList e) ≡ told x (markList e)) (deal : told S (markDeal e) ≡ told x (markDeal e))
     (won : wins S ≡ wins x + wins y) (sums : (m : ℕ) → m < 201 → told S (lists m) ≡ told x (lists m) + told y (lists m))
     (more : (i : ℕ) → i < 32000 → covered x (suc i) ≡ true → covered S (suc i) ≡ true) where
-
   more-at : (n : ℕ) → 0 < n → n ≤ 32000 → covered x n ≡ true → covered S n ≡ true
   more-at zero h l c = absurd (not-suc-le-zero h)
   more-at (suc i) h l c = more i l c
@@ -335,9 +335,10 @@ same-next p q = record { budget = p .budget ∙ q .budget; capacity = p .capacit
 -- what is apart from a sum is apart from both, and the other way round
 module _ (a b c : List ℕ) (free : apart a b ≡ true) where
   apart-parts : apart (added a b) c ≡ true → (apart a c ≡ true) × (apart b c ≡ true)
-  apart-parts t =
-      (apart-by a c (λ i l. left (covered a (suc i)) (covered b (suc i)) (covered c (suc i)) (at i l)),
-      apart-by b c (λ i l. right (covered a (suc i)) (covered b (suc i)) (covered c (suc i)) (at i l)))
+  apart-parts t = (
+    apart-by a c (λ i l. left (covered a (suc i)) (covered b (suc i)) (covered c (suc i)) (at i l)),
+    apart-by b c (λ i l. right (covered a (suc i)) (covered b (suc i)) (covered c (suc i)) (at i l)),
+  )
     where
       at : (i : ℕ) → i < 32000 → ((covered a (suc i) || covered b (suc i)) && covered c (suc i)) ≡ false
       at i l = ap (λ (x : Bool). x && covered c (suc i)) (sym (covered-added a b free i l)) ∙ apart-at (added a b) c t i l
@@ -371,10 +372,11 @@ add-assoc a b c x y p q =
     let parts = apart-parts a b c (g .free) free-x in
     let same-ac : Same a c = same-next (same-added a b) same-x in
     let same-bc : Same b c = same-next (same-turned a b (g .same)) same-ac in
-    let good-bc = added-is-good b c (g .other) (h .other) same-bc (parts .1) in
-    (is-given b c (g .other) (h .other) same-bc (parts .1),
-    is-given a (added b c) (g .one) good-bc (same-next (g .same) (same-added b c)) (apart-whole b c a (parts .1) (g .free) (parts .0))
-    ∙ ap given (sym (h .sum ∙ ap (λ (z : List ℕ). added z c) (g .sum) ∙ added-assoc a b c)))
+    let good-bc = added-is-good b c (g .other) (h .other) same-bc (parts .1) in (
+      is-given b c (g .other) (h .other) same-bc (parts .1),
+      is-given a (added b c) (g .one) good-bc (same-next (g .same) (same-added b c)) (apart-whole b c a (parts .1) (g .free) (parts .0))
+          ∙ ap given (sym (h .sum ∙ ap (λ (z : List ℕ). added z c) (g .sum) ∙ added-assoc a b c)),
+    )
 
 -- ---- sheets over deals
 

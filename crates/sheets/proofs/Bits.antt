@@ -67,5 +67,5 @@ joined-below (suc n) a b p q h =
     let x = bit-first a in
     let y = bit-first b in
     let i = joined-below n (a / 2) (b / 2) (omega arith) (omega arith)
-        (λ j l. let p = h (suc j) (omega arith) in let u = bit-next a j in let v = bit-next b j in omega arith) in
+    (λ j l. let p = h (suc j) (omega arith) in let u = bit-next a j in let v = bit-next b j in omega arith) in
     omega arith

@@ -11,7 +11,8 @@ use lib.ListN.{getD}
 use Rattle.base.specs.Words.{sum}
 use Rattle.base.proofs.Words.{not-so, true-or-not, first, second, both, same-test}
 use Rattle.base.proofs.Sums.{sum-zero, sum-one}
-use Rattle.sheets.specs.Figures.{answersCounted, Side, Figure, theBudget, theCapacity, theFlag, answers, allPops, markList, markDeal, lists, covers, told}
+use Rattle.sheets.specs.declared.Side.{Side}
+use Rattle.sheets.specs.Figures.{answersCounted, Figure, theBudget, theCapacity, theFlag, answers, allPops, markList, markDeal, lists, covers, told}
 use Rattle.sheets.specs.Over.{Settings, Result, won, over, keyOf, noKey, least, bestKey, keyList, keyDeal, figureOver, sheetOver, between}
 use Rattle.sheets.specs.Adding.{keyIn, added}
 use Rattle.sheets.specs.Noted.{leads, notedFigure, noted}

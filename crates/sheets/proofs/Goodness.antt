@@ -12,7 +12,9 @@ use lib.ListN.{length, getD}
 use Rattle.base.specs.Words.{every, sum, occurs}
 use Rattle.base.proofs.Words.{first, second, both, every-at, every-by, true-or-not, not-so}
 use Rattle.base.proofs.Sums.{sum-same, sum-zero, sum-one, sum-part}
-use Rattle.sheets.specs.Figures.{answersCounted, Side, shortest, longest, Figure, theBudget, answers, allPops, markList, markDeal, lists, told}
+use Rattle.sheets.specs.declared.Side.{Side}
+use Rattle.sheets.specs.declared.Side.the-variants.{Shortest as shortest, Longest as longest}
+use Rattle.sheets.specs.Figures.{answersCounted, Figure, theBudget, answers, allPops, markList, markDeal, lists, told}
 use Rattle.sheets.specs.Over.{Settings, Result, won, over, behind, keyOf, noKey, bestKey, keyList, keyDeal, figureOver, sheetOver}
 use Rattle.sheets.specs.Good.{covered, deals, wins, isAbsent, isBest, hasDeal, goodMark, goodSheet}
 use Rattle.sheets.proofs.Reading.{Stands, words-long}

@@ -12,7 +12,8 @@ use lib.ListN.{getD}
 use Rattle.base.specs.Words.{sum}
 use Rattle.base.proofs.Words.{not-so, true-or-not}
 use Rattle.base.proofs.Sums.{sum-same, sum-add, sum-zero, sum-one}
-use Rattle.sheets.specs.Figures.{answersCounted, Side, Figure, theBudget, theCapacity, theFlag, answers, allPops, markList, markDeal, lists, covers, told}
+use Rattle.sheets.specs.declared.Side.{Side}
+use Rattle.sheets.specs.Figures.{answersCounted, Figure, theBudget, theCapacity, theFlag, answers, allPops, markList, markDeal, lists, covers, told}
 use Rattle.sheets.specs.Over.{Settings, Result, won, over, keyOf, noKey, least, bestKey, keyList, keyDeal, figureOver, sheetOver}
 use Rattle.sheets.specs.Adding.{flagOf, keyIn, better, addedFigure, added}
 use Rattle.sheets.specs.Noted.{noFigure, zeroSheet, leads, notedFigure, noted}

@@ -9,3 +9,5 @@ pub mod Entered
 pub mod Goodness
 pub mod Sums
 pub mod Adding
+pub mod Loops
+pub mod Deciding

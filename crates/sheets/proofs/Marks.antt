@@ -11,7 +11,9 @@ use borrow.Author.Count.{below-more}
 use borrow.Author.Tests.{eq-eqb, ne-eqb, lt-ltb, le-ltb}
 use lib.Dec.{eqb, ltb}
 use Rattle.base.proofs.Words.{first, second, both}
-use Rattle.sheets.specs.Figures.{Side, shortest, longest, markList, markDeal, told}
+use Rattle.sheets.specs.declared.Side.{Side}
+use Rattle.sheets.specs.declared.Side.the-variants.{Shortest as shortest, Longest as longest}
+use Rattle.sheets.specs.Figures.{markList, markDeal, told}
 use Rattle.sheets.specs.Over.{Settings, Result, won, behind, keyOf, noKey, least, bestKey, keyList, keyDeal, figureOver, sheetOver}
 use Rattle.sheets.specs.Adding.{keyIn}
 use Rattle.sheets.proofs.Reading.{words-tell}

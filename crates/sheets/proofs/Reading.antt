@@ -8,7 +8,8 @@ use lib.ListN.{length, getD, length-append, List·getD-append}
 use lib.Seq.{getD-append-add, ext-getD}
 use Rattle.base.specs.Words.{listed}
 use Rattle.base.proofs.Words.{length-listed, getD-listed}
-use Rattle.sheets.specs.Figures.{shortest, longest, Figure, theBudget, theCapacity, theFlag, answers, allPops, markList, markDeal, lists, covers, sheetRoom, placeOf, told, wordsOf}
+use Rattle.sheets.specs.declared.Side.the-variants.{Shortest as shortest, Longest as longest}
+use Rattle.sheets.specs.Figures.{Figure, theBudget, theCapacity, theFlag, answers, allPops, markList, markDeal, lists, covers, sheetRoom, placeOf, told, wordsOf}
 
 -- the figure has a place
 abbrev pub Stands : Figure → Type 0

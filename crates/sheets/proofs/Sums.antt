@@ -13,7 +13,8 @@ use Rattle.base.specs.Answer.{Answer, given, refused, unless}
 use Rattle.base.proofs.Answers.{given-by}
 use Rattle.base.proofs.Words.{first, second, both, every-at, every-by, true-or-not, not-so, same-test}
 use Rattle.base.proofs.Sums.{sum-same, sum-add, sum-part}
-use Rattle.sheets.specs.Figures.{Side, Figure, theBudget, theCapacity, theFlag, answers, allPops, markList, markDeal, lists, covers, told}
+use Rattle.sheets.specs.declared.Side.{Side}
+use Rattle.sheets.specs.Figures.{Figure, theBudget, theCapacity, theFlag, answers, allPops, markList, markDeal, lists, covers, told}
 use Rattle.sheets.specs.Over.{over, behind, keyOf, noKey, keyList, keyDeal}
 use Rattle.sheets.specs.Good.{covered, deals, wins, goodMark, goodSheet}
 use Rattle.sheets.specs.Adding.{flagOf, sameSettings, apart, keyIn, better, addedFigure, added, addAsked}
@@ -129,9 +130,10 @@ module _ (e : Side) (a : List ℕ) where
     where
       by-wins : Dec (0 < wins a) → (told a (markList e) ≡ keyList e (keyIn e a)) × (told a (markDeal e) ≡ keyDeal (keyIn e a))
       by-wins (yes h) =
-          let k = mark-some e a g h in
-          (sym (ap (keyList e) (key-some k) ∙ mark-list e (told a (markList e)) (told a (markDeal e)) (k .short) (k .low) (k .high)),
-          sym (ap keyDeal (key-some k) ∙ mark-deal e (told a (markList e)) (told a (markDeal e)) (k .short) (k .low) (k .high)))
+          let k = mark-some e a g h in (
+            sym (ap (keyList e) (key-some k) ∙ mark-list e (told a (markList e)) (told a (markDeal e)) (k .short) (k .low) (k .high)),
+            sym (ap keyDeal (key-some k) ∙ mark-deal e (told a (markList e)) (told a (markDeal e)) (k .short) (k .low) (k .high)),
+          )
       by-wins (no h) =
           let u = mark-none e a g (omega arith) in
           (u .list ∙ sym (ap (keyList e) (key-none u) ∙ no-list e), u .deal ∙ sym (ap keyDeal (key-none u) ∙ no-deal e))

@@ -5,7 +5,8 @@ use Prim.Native.Nat.{ℕ, suc, _+_}
 use lib.Dec.{eqb, ltb}
 use Rattle.base.specs.Words.{every}
 use Rattle.base.specs.Answer.{Answer, given, unless}
-use Rattle.sheets.specs.Figures.{lastDeal, Side, Figure, theBudget, theCapacity, theFlag, answers, allPops, markList, markDeal, lists, covers, told, wordsOf}
+use Rattle.sheets.specs.declared.Side.{Side}
+use Rattle.sheets.specs.Figures.{lastDeal, Figure, theBudget, theCapacity, theFlag, answers, allPops, markList, markDeal, lists, covers, told, wordsOf}
 use Rattle.sheets.specs.Over.{keyOf, noKey}
 use Rattle.sheets.specs.Good.{covered, goodSheet}
 

@@ -3,6 +3,8 @@ use mathlib.Core.List.{List, [], _∷_, _++_}
 use Prim.Native.Nat.{ℕ, _+_}
 use lib.ListN.{getD}
 use Rattle.base.specs.Words.{listed}
+use Rattle.sheets.specs.declared.Side.{Side}
+use Rattle.sheets.specs.declared.Side.the-variants.{Shortest as shortest, Longest as longest}
 
 -- the answers that are counted, in the order in which they stand
 abbrev pub answersCounted : List ℕ
@@ -14,10 +16,6 @@ longestList = 200
 
 abbrev pub lastDeal : ℕ
 lastDeal = 32000
-
-pub data Side : Type 0 where
-  shortest : Side
-  longest : Side
 
 pub data Figure : Type 0 where
   -- the settings

@@ -6,7 +6,9 @@ use lib.Dec.{eqb, leb, ltb}
 use lib.ListN.{length}
 use Rattle.base.specs.Words.{every, sum}
 use Rattle.board.specs.Inner.{bitAt}
-use Rattle.sheets.specs.Figures.{longestList, lastDeal, Side, shortest, longest, theBudget, answers, allPops, markList, markDeal, lists, covers, sheetRoom, told}
+use Rattle.sheets.specs.declared.Side.{Side}
+use Rattle.sheets.specs.declared.Side.the-variants.{Shortest as shortest, Longest as longest}
+use Rattle.sheets.specs.Figures.{longestList, lastDeal, theBudget, answers, allPops, markList, markDeal, lists, covers, sheetRoom, told}
 use Rattle.sheets.specs.Over.{over, behind}
 
 -- the sheet covers deal number n, which is at least 1

@@ -4,7 +4,8 @@ use mathlib.Core.List.{List}
 use Prim.Native.Nat.{ℕ, _+_, _-_, _^_, _/_, _%_}
 use lib.Dec.{eqb, ltb}
 use lib.ListN.{getD}
-use Rattle.sheets.specs.Figures.{answersCounted, Side, Figure, theBudget, theCapacity, theFlag, answers, allPops, markList, markDeal, lists, covers, told, wordsOf}
+use Rattle.sheets.specs.declared.Side.{Side}
+use Rattle.sheets.specs.Figures.{answersCounted, Figure, theBudget, theCapacity, theFlag, answers, allPops, markList, markDeal, lists, covers, told, wordsOf}
 use Rattle.sheets.specs.Over.{Settings, Result, won, keyOf}
 use Rattle.sheets.specs.Adding.{keyIn}
 

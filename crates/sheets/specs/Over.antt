@@ -5,7 +5,9 @@ use Prim.Native.Nat.{ℕ, zero, suc, min, _+_, _*_, _-_, _^_, _/_, _%_}
 use lib.Dec.{eqb, leb, ltb}
 use lib.ListN.{getD}
 use Rattle.base.specs.Words.{sum}
-use Rattle.sheets.specs.Figures.{answersCounted, longestList, lastDeal, Side, shortest, longest, Figure, theBudget, theCapacity, theFlag, answers, allPops, markList, markDeal, lists, covers, wordsOf}
+use Rattle.sheets.specs.declared.Side.{Side}
+use Rattle.sheets.specs.declared.Side.the-variants.{Shortest as shortest, Longest as longest}
+use Rattle.sheets.specs.Figures.{answersCounted, longestList, lastDeal, Figure, theBudget, theCapacity, theFlag, answers, allPops, markList, markDeal, lists, covers, wordsOf}
 
 pub record Settings : Type 0 where
   pub budget : ℕ
