@@ -11,3 +11,4 @@ pub mod Sums
 pub mod Adding
 pub mod Loops
 pub mod Deciding
+pub mod Totals

@@ -4,3 +4,4 @@ pub mod Over
 pub mod Good
 pub mod Adding
 pub mod Noted
+pub mod Promises

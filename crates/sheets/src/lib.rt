@@ -41,6 +41,9 @@ pub const LAST_DEAL: usize = 32_000;
 
 pub const LONGEST_LIST: u64 = 200;
 
+// A sheet without a win: above the key of every mark.
+pub const NO_KEY: u64 = 6_586_368;
+
 pub const MOST_BUDGET: u64 = 1_000_000;
 
 // Which won list is marked.
