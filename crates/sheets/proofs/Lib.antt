@@ -12,3 +12,6 @@ pub mod Adding
 pub mod Loops
 pub mod Deciding
 pub mod Totals
+pub mod Figuring
+pub mod Answering
+pub mod Entering

@@ -1,9 +1,9 @@
 -- What the functions ask and promise, a record each.
 use mathlib.Core.Path.{_≡_}
-use mathlib.Core.Bool.{true, false, cond}
+use mathlib.Core.Bool.{Bool, true, false, cond}
 use mathlib.Core.List.{List}
 use Prim.Native.Nat.{ℕ, _+_, _^_, _<_, _≤_}
-use lib.Dec.{eqb}
+use lib.Dec.{eqb, ltb}
 use lib.ListN.{length, getD, set}
 use Rattle.base.specs.Answer.{Answer, given, refused}
 use Rattle.base.specs.Words.{occurs}
@@ -11,10 +11,10 @@ use Rattle.board.specs.Verdict.{Verdict, fine}
 use Rattle.board.specs.Refusal.{examinedTold}
 use Rattle.board.specs.declared.Examined.{Examined}
 use Rattle.sheets.specs.declared.Side.{Side}
-use Rattle.sheets.specs.Figures.{answersCounted, theBudget, markList, markDeal, placeOf, told}
-use Rattle.sheets.specs.Over.{Result}
+use Rattle.sheets.specs.Figures.{answersCounted, theBudget, markList, markDeal, lists, placeOf, told}
+use Rattle.sheets.specs.Over.{Result, keyOf}
 use Rattle.sheets.specs.Good.{covered, goodSheet}
-use Rattle.sheets.specs.Adding.{sameSettings, apart, better, addAsked}
+use Rattle.sheets.specs.Adding.{sameSettings, apart, keyIn, better, addAsked}
 
 -- ---- adding
 
@@ -49,9 +49,17 @@ pub record Small (e : Side) (a : List ℕ) : Type 0 where
 abbrev pub markSet : Side → List ℕ → ℕ → ℕ → List ℕ
 markSet e a m n = set (set a (placeOf (markList e)) m) (placeOf (markDeal e)) n
 
+-- another mark, if a test holds
+abbrev pub markWhen : Side → Bool → List ℕ → ℕ → ℕ → List ℕ
+markWhen e t a m n = cond t (markSet e a m n) a
+
 -- the better of two sheets' marks
 abbrev pub markChosen : Side → List ℕ → List ℕ → List ℕ
-markChosen e a b = cond (better e a b) (markSet e a (told b (markList e)) (told b (markDeal e))) a
+markChosen e a b = markWhen e (better e a b) a (told b (markList e)) (told b (markDeal e))
+
+-- the better of a sheet's mark and a list of m moves for deal n
+abbrev pub markEntered : Side → List ℕ → ℕ → ℕ → List ℕ
+markEntered e a m n = markWhen e (ltb (keyOf e m n) (keyIn e a)) a m n
 
 -- what is said, and what is left in the first sheet
 abbrev pub saidOf : Answer (List ℕ) → Verdict
@@ -83,3 +91,12 @@ pub record Raised (a : List ℕ) (at by : ℕ) (X : List ℕ) : Type 0 where
   pub long : length X ≡ length a
   pub here : getD X at 0 ≡ getD a at 0 + by
   pub others : (i : ℕ) → (i ≡ at → ⊥) → getD X i 0 ≡ getD a i 0
+
+-- X is a with a won list of m moves for deal n: its length counted, both marks compared, all else as it was
+pub record WinNoted (a : List ℕ) (m n : ℕ) (X : List ℕ) : Type 0 where
+  pub long : length X ≡ 716
+  pub lengths : (k : ℕ) → k < 201 → told X (lists k) ≡ told a (lists k) + cond (eqb m k) 1 0
+  pub list : (e : Side) → told X (markList e) ≡ cond (ltb (keyOf e m n) (keyIn e a)) m (told a (markList e))
+  pub deal : (e : Side) → told X (markDeal e) ≡ cond (ltb (keyOf e m n) (keyIn e a)) n (told a (markDeal e))
+  pub below : (i : ℕ) → i < 11 → getD X i 0 ≡ getD a i 0
+  pub above : (i : ℕ) → 216 ≤ i → getD X i 0 ≡ getD a i 0
