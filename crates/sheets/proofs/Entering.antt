@@ -103,8 +103,15 @@ below-six x o d = by-order (decLt x 6)
     by-order (yes h) = h
     by-order (no h) =
         let z : occurs x answersCounted ≡ 0 =
-            rw (ne-eqb x 0 (λ q. let w : ⊥ = omega arith in w), ne-eqb x 1 (λ q. let w : ⊥ = omega arith in w), ne-eqb x 2 (λ q. let w : ⊥ = omega arith in w),
-            ne-eqb x 3 (λ q. let w : ⊥ = omega arith in w), ne-eqb x 4 (λ q. let w : ⊥ = omega arith in w), ne-eqb x 5 (λ q. let w : ⊥ = omega arith in w), ne-eqb x 23 d) refl in
+        rw (
+          ne-eqb x 0 (λ q. let w : ⊥ = omega arith in w),
+          ne-eqb x 1 (λ q. let w : ⊥ = omega arith in w),
+          ne-eqb x 2 (λ q. let w : ⊥ = omega arith in w),
+          ne-eqb x 3 (λ q. let w : ⊥ = omega arith in w),
+          ne-eqb x 4 (λ q. let w : ⊥ = omega arith in w),
+          ne-eqb x 5 (λ q. let w : ⊥ = omega arith in w),
+          ne-eqb x 23 d,
+        ) refl in
         absurd (let w : ⊥ = omega arith in w)
 
 in-place : every 6 (λ r. eqb (getD answersCounted r 0) r) ≡ true
@@ -236,3 +243,184 @@ module _ {a X1 : List ℕ} (m n : ℕ) (short : m ≤ 200) (ss : Small shortest 
             ∙ past-2 i (λ q. let w : ⊥ = omega arith in w) (λ q. let w : ⊥ = omega arith in w) ∙ near-1 i (omega arith);
         above = λ i h. far i (omega arith) ∙ r .others i (λ q. let w : ⊥ = omega arith in w);
       }
+
+-- ---- a deal
+
+bit-free : (a : List ℕ) (n : ℕ) → covered a n ≡ false → bitAt (told a (covers ((n - 1) / 64))) ((n - 1) % 64) ≡ 0
+unfolding covered
+bit-free a n e = by-bit (ℕ-discrete (bitAt (told a (covers ((n - 1) / 64))) ((n - 1) % 64)) 1)
+  where
+    by-bit : Dec (bitAt (told a (covers ((n - 1) / 64))) ((n - 1) % 64) ≡ 1) → bitAt (told a (covers ((n - 1) / 64))) ((n - 1) % 64) ≡ 0
+    by-bit (yes q) =
+        true-or-not (eqb (bitAt (told a (covers ((n - 1) / 64))) ((n - 1) % 64)) 1) (eq-eqb (bitAt (told a (covers ((n - 1) / 64))) ((n - 1) % 64)) 1 q) e
+    by-bit (no d) = let s = bit-small (told a (covers ((n - 1) / 64))) ((n - 1) % 64) in omega arith
+
+module _ {a : List ℕ} {n : ℕ} {x : Result} (en : Enterable a n x) (which : ℕ)
+    (at : (which < 7) × (getD answersCounted which 0 ≡ x .answer)) where
+  abbrev word : ℕ
+  word = (n - 1) / 64
+
+  abbrev bit : ℕ
+  bit = (n - 1) % 64
+
+  good : IsGood a
+  good = good-is a (en .good)
+
+  word-in : word < 500
+  word-in = let l = en .low in let h = en .high in omega arith
+
+  one-bit : (1 * 2 ^ bit) % 2 ^ 64 ≡ 2 ^ bit
+  one-bit = bit-word bit (omega arith)
+
+  pub note-room-1 : (3 + which < length a) × (getD a (3 + which) 0 + 1 < 2 ^ 64)
+  note-room-1 =
+      let w = at .0 in
+      let l = good .long in
+      (omega arith, let m = answers-most good which w in let e = told-at a (answers which) in omega arith)
+
+  module _ {X1 : List ℕ} (r1 : Raised a (3 + which) 1 X1) where
+    pub note-room-2 : (10 < length X1) × (getD X1 10 0 + x .pops < 2 ^ 64)
+    note-room-2 =
+        let w = at .0 in
+        let l = good .long in
+        let k = r1 .long in (
+          omega arith,
+          let o = r1 .others 10 (λ q. let w : ⊥ = omega arith in w) in
+              let e = told-at a allPops in
+              let p = good .pops in
+              let m = pops-fit _ _ (good .budget) (deals-most a) in
+              let f = en .afforded in
+              let b = good .budget in
+              omega arith,
+        )
+
+    module _ {X2 : List ℕ} (r2 : Raised X1 10 (x .pops) X2) where
+      long-x2 : length X2 ≡ 716
+      long-x2 = r2 .long ∙ r1 .long ∙ good .long
+
+      pub note-room-3 : ((i : ℕ) → getD a i 0 < 2 ^ 64) → (216 + word < length X2) × (getD X2 (216 + word) 0 + (1 * 2 ^ bit) % 2 ^ 64 < 2 ^ 64)
+      note-room-3 small =
+          let w = at .0 in
+          let v = word-in in
+          let l = long-x2 in (
+            omega arith,
+            subst (λ (y : ℕ). y + (1 * 2 ^ bit) % 2 ^ 64 < 2 ^ 64)
+                (sym (r2 .others (216 + word) (λ q. let w : ⊥ = omega arith in w) ∙ r1 .others (216 + word) (λ q. let w : ⊥ = omega arith in w)))
+                (subst (λ (y : ℕ). getD a (216 + word) 0 + y < 2 ^ 64) (sym one-bit)
+                (bit-fits 64 bit (getD a (216 + word) 0) (omega arith) (small (216 + word))
+                (ap (λ (y : ℕ). bitAt y bit) (sym (told-at a (covers word))) ∙ bit-free a n (en .new)))),
+          )
+
+      module _ {X3 : List ℕ} (r3 : Raised X2 (216 + word) ((1 * 2 ^ bit) % 2 ^ 64) X3) where
+        long-x3 : length X3 ≡ 716
+        long-x3 = r3 .long ∙ long-x2
+
+        -- the other words
+        plain : (i : ℕ) → (i ≡ 3 + which → ⊥) → (i ≡ 10 → ⊥) → (i ≡ 216 + word → ⊥) → getD X3 i 0 ≡ getD a i 0
+        plain i p q s = r3 .others i s ∙ r2 .others i q ∙ r1 .others i p
+
+        low-plain : (i : ℕ) → i < 3 → getD X3 i 0 ≡ getD a i 0
+        low-plain i h = plain i (λ q. let w : ⊥ = omega arith in w) (λ q. let w : ⊥ = omega arith in w) (λ q. let w : ⊥ = omega arith in w)
+
+        mid-plain : (i : ℕ) → 11 ≤ i → i < 216 → getD X3 i 0 ≡ getD a i 0
+        mid-plain i h k =
+            let w = at .0 in
+            plain i (λ q. let w : ⊥ = omega arith in w) (λ q. let w : ⊥ = omega arith in w) (λ q. let w : ⊥ = omega arith in w)
+
+        list-plain : (e : Side) → told X3 (markList e) ≡ told a (markList e)
+        unfolding told
+        list-plain shortest = mid-plain 11 (omega arith) (omega arith)
+        list-plain longest = mid-plain 13 (omega arith) (omega arith)
+
+        deal-plain : (e : Side) → told X3 (markDeal e) ≡ told a (markDeal e)
+        unfolding told
+        deal-plain shortest = mid-plain 12 (omega arith) (omega arith)
+        deal-plain longest = mid-plain 14 (omega arith) (omega arith)
+
+        lists-plain : (m : ℕ) → m < 201 → told X3 (lists m) ≡ told a (lists m)
+        unfolding told
+        lists-plain m h = mid-plain (15 + m) (omega arith) (omega arith)
+
+        answers-in : (k : ℕ) → k < 7 → Dec (k ≡ which) → told X3 (answers k) ≡ told a (answers k) + cond (eqb (x .answer) (getD answersCounted k 0)) 1 0
+        unfolding told
+        answers-in k h d =
+            let w = at .0 in
+            r3 .others (3 + k) (λ q. let w : ⊥ = omega arith in w) ∙ r2 .others (3 + k) (λ q. let w : ⊥ = omega arith in w) ∙ by-place d
+            ∙ ap (λ (y : ℕ). getD a (3 + k) 0 + y) (sym (answer-place (x .answer) which k w h (at .1)))
+          where
+            by-place : Dec (k ≡ which) → getD X1 (3 + k) 0 ≡ getD a (3 + k) 0 + cond (eqb k which) 1 0
+            by-place (yes q) =
+                rw (eq-eqb k which q) (subst (λ (y : ℕ). getD X1 (3 + y) 0 ≡ getD a (3 + y) 0 + 1) (sym q) (r1 .here))
+            by-place (no d) = rw (ne-eqb k which d) (r1 .others (3 + k) (λ q. d (let z : k ≡ which = omega arith in z)) ∙ (omega arith))
+
+        pops-in : told X3 allPops ≡ told a allPops + x .pops
+        unfolding told
+        pops-in =
+            let w = at .0 in
+            r3 .others 10 (λ q. let w : ⊥ = omega arith in w) ∙ r2 .here
+            ∙ ap (λ (y : ℕ). y + x .pops) (r1 .others 10 (λ q. let w : ⊥ = omega arith in w))
+
+        covers-in : (v : ℕ) → v < 500 → Dec (word ≡ v) → told X3 (covers v) ≡ told a (covers v) + cond (eqb word v) (2 ^ bit) 0
+        unfolding told
+        covers-in v h (yes q) =
+            let w = at .0 in
+            rw (eq-eqb word v q)
+            (subst (λ (y : ℕ). getD X3 (216 + y) 0 ≡ getD a (216 + y) 0 + 2 ^ bit) q
+            (r3 .here
+            ∙ ap₂ (λ (y z : ℕ). y + z) (r2 .others (216 + word) (λ q. let w : ⊥ = omega arith in w) ∙ r1 .others (216 + word) (λ q. let w : ⊥ = omega arith in w)) one-bit))
+        covers-in v h (no d) =
+            let w = at .0 in
+            rw (ne-eqb word v d)
+            (plain (216 + v) (λ q. let w : ⊥ = omega arith in w) (λ q. let w : ⊥ = omega arith in w) (λ q. d (let z : word ≡ v = omega arith in z)) ∙ (omega arith))
+
+        small-in : (e : Side) → Small e X3
+        small-in e = small-same e a X3 (small-good e a good) long-x3 (list-plain e) (deal-plain e)
+
+        pub note-room-4 : ((x .moves ≤ 200) × (n ≤ 32000)) × ((getD X3 (15 + x .moves) 0 ≤ 32000) × (Small shortest X3 × Small longest X3))
+        note-room-4 =
+            let s = en .short in
+            let p = mid-plain (15 + x .moves) (omega arith) (omega arith) in
+            let m = lists-most good (x .moves) (omega arith) in
+            let e = told-at a (lists (x .moves)) in
+            ((s, en .high), (omega arith, (small-in shortest, small-in longest)))
+
+        -- no win: the marks and the lengths stay
+        plain-at : won x ≡ false → (g : Figure) → Stands g → told X3 g ≡ notedFigure a n x g
+        unfolding told notedFigure
+        plain-at f theBudget h = low-plain 0 (omega arith)
+        plain-at f theCapacity h = low-plain 1 (omega arith)
+        plain-at f theFlag h = low-plain 2 (omega arith)
+        plain-at f (answers k) h = answers-in k h (ℕ-discrete k which)
+        plain-at f allPops h = pops-in
+        plain-at f (markList e) h = list-plain e ∙ sym (rw f refl)
+        plain-at f (markDeal e) h = deal-plain e ∙ sym (rw f refl)
+        plain-at f (lists m) h = rw f (lists-plain m h ∙ (omega arith))
+        plain-at f (covers v) h = covers-in v h (ℕ-discrete word v)
+
+        pub note-plain : (x .answer ≡ 0 → ⊥) → X3 ≡ noted a n x
+        unfolding noted
+        note-plain d =
+            same-words X3 (noted a n x) long-x3 (words-long (notedFigure a n x))
+            (λ g h. plain-at (ne-eqb (x .answer) 0 d) g h ∙ sym (words-tell (notedFigure a n x) g h))
+
+        module _ {X4 : List ℕ} (wn : WinNoted X3 (x .moves) n X4) where
+          asked : (e : Side) → ltb (keyOf e (x .moves) n) (keyIn e X3) ≡ ltb (keyOf e (x .moves) n) (keyIn e a)
+          asked e = ap (ltb (keyOf e (x .moves) n)) (key-same e X3 a (list-plain e) (deal-plain e))
+
+          win-at : won x ≡ true → (g : Figure) → Stands g → told X4 g ≡ notedFigure a n x g
+          unfolding told notedFigure
+          win-at f theBudget h = wn .below 0 (omega arith) ∙ low-plain 0 (omega arith)
+          win-at f theCapacity h = wn .below 1 (omega arith) ∙ low-plain 1 (omega arith)
+          win-at f theFlag h = wn .below 2 (omega arith) ∙ low-plain 2 (omega arith)
+          win-at f (answers k) h = wn .below (3 + k) (omega arith) ∙ answers-in k h (ℕ-discrete k which)
+          win-at f allPops h = wn .below 10 (omega arith) ∙ pops-in
+          win-at f (markList e) h = wn .list e ∙ ap₂ (λ (t : Bool) (y : ℕ). cond t (x .moves) y) (asked e) (list-plain e) ∙ sym (rw f refl)
+          win-at f (markDeal e) h = wn .deal e ∙ ap₂ (λ (t : Bool) (y : ℕ). cond t n y) (asked e) (deal-plain e) ∙ sym (rw f refl)
+          win-at f (lists m) h = wn .lengths m h ∙ ap (λ (y : ℕ). y + cond (eqb (x .moves) m) 1 0) (lists-plain m h) ∙ sym (rw f refl)
+          win-at f (covers v) h = wn .above (216 + v) (omega arith) ∙ covers-in v h (ℕ-discrete word v)
+
+          pub note-won : x .answer ≡ 0 → X4 ≡ noted a n x
+          unfolding noted
+          note-won z =
+              same-words X4 (noted a n x) (wn .long) (words-long (notedFigure a n x))
+              (λ g h. win-at (eq-eqb (x .answer) 0 z) g h ∙ sym (words-tell (notedFigure a n x) g h))

@@ -32,7 +32,7 @@ note-mark-requires-2 c κs = (subst (Small longest) (sym (c .before .before .bef
 
 -- src/enter.rt:75:1
 same-length : tie.Need-same-length
-same-length c = ?
+same-length c = c .before .before .note-mark2 .kept .0 ∙ c .before .before .before .before .before .before .note-mark .kept .0 ∙ c .before .before .before .before .before .before .before .before .before .before .raise .kept .0
 
 -- src/enter.rt:75:1
 returns : tie.Need-returns

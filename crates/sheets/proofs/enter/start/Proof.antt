@@ -1,5 +1,9 @@
 -- What `start` leaves to be shown: cleared, then the settings.
 use Rattle.sheets.proofs.Entering.{started}
+use mathlib.Core.Path.{sym, _∙_, subst}
+use Prim.Native.Nat.{ℕ, _<_}
+use native.Mathlib.Omega.{arith}
+use lib.ListN.{set, length-set}
 use borrow.Author.Needs.{needs}
 use Rattle.sheets.proofs.enter.start.Statement.{statement}
 use Rattle.sheets.proofs.enter.start.Tie as tie
@@ -18,19 +22,19 @@ flag-word-requires c κs = search needs
 
 -- src/enter.rt:32:5
 slice-write-sheet : tie.Need-slice-write-sheet
-slice-write-sheet c = ?
+slice-write-sheet c = omega (arith, c .before .before .before .clear-longs .kept .0, c .before .before .before .before .before .before .pre)
 
 -- src/enter.rt:33:5
 slice-write-sheet-2 : tie.Need-slice-write-sheet-2
-slice-write-sheet-2 c = ?
+slice-write-sheet-2 c = subst (λ (x : ℕ). 1 < x) (sym (length-set (c .before .before .before .clear-longs .last .0) 0 (c .before .before .before .before .before .before .args .budget))) (omega (arith, c .before .before .before .clear-longs .kept .0, c .before .before .before .before .before .before .pre))
 
 -- src/enter.rt:34:5
 slice-write-sheet-3 : tie.Need-slice-write-sheet-3
-slice-write-sheet-3 c = ?
+slice-write-sheet-3 c = subst (λ (x : ℕ). 2 < x) (sym (length-set (set (c .before .before .before .clear-longs .last .0) 0 (c .before .before .before .before .before .before .args .budget)) 1 (c .before .before .before .before .before .before .args .capacity) ∙ length-set (c .before .before .before .clear-longs .last .0) 0 (c .before .before .before .before .before .before .args .budget))) (omega (arith, c .before .before .before .clear-longs .kept .0, c .before .before .before .before .before .before .pre))
 
 -- src/enter.rt:26:1
 same-length : tie.Need-same-length
-same-length c = ?
+same-length c = length-set (set (set (c .before .before .before .clear-longs .last .0) 0 (c .before .before .before .before .before .before .args .budget)) 1 (c .before .before .before .before .before .before .args .capacity)) 2 (c .flag-word .result) ∙ length-set (set (c .before .before .before .clear-longs .last .0) 0 (c .before .before .before .before .before .before .args .budget)) 1 (c .before .before .before .before .before .before .args .capacity) ∙ length-set (c .before .before .before .clear-longs .last .0) 0 (c .before .before .before .before .before .before .args .budget) ∙ c .before .before .before .clear-longs .kept .0
 
 -- src/enter.rt:26:1
 returns : tie.Need-returns

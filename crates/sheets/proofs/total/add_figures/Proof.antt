@@ -7,6 +7,7 @@ use Rattle.sheets.specs.declared.Side.the-variants.{Longest as longest}
 use Rattle.sheets.specs.Promises.{Small, markChosen}
 use Rattle.sheets.proofs.Goodness.{good-is}
 use Rattle.sheets.proofs.Figuring.{room-1, room-2, small-good, small-3, small-4, all-added}
+use lib.ListN.{length-set}
 use borrow.Author.Needs.{needs}
 use Rattle.sheets.proofs.total.add_figures.Statement.{statement}
 use Rattle.sheets.proofs.total.add_figures.Tie as tie
@@ -46,7 +47,7 @@ add-mark-requires-2 c κs = (subst (Small longest) (sym (c .before .before .befo
 
 -- src/total.rt:135:1
 same-length : tie.Need-same-length
-same-length c = ?
+same-length c = c .before .before .add-mark2 .kept .0 ∙ c .before .before .before .before .before .before .add-mark .kept .0 ∙ c .before .before .before .before .before .before .before .before .before .before .add-words2 .kept .0 ∙ c .before .before .before .before .before .before .before .before .before .before .before .before .before .before .add-words .kept .0 ∙ length-set (c .before .before .before .before .before .before .before .before .before .before .before .before .before .before .before .before .before .before .before .before .args .into .now) 2 (c .before .before .before .before .before .before .before .before .before .before .before .before .before .before .before .before .flag .result)
 
 -- src/total.rt:135:1
 returns : tie.Need-returns
