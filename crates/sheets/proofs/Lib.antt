@@ -15,3 +15,4 @@ pub mod Totals
 pub mod Figuring
 pub mod Answering
 pub mod Entering
+pub mod Unique

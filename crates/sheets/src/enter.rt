@@ -9,9 +9,9 @@ ghost use Rattle.sheets.specs.declared.Side.the-variants.{Shortest as sh
 ghost use Rattle.sheets.specs.Noted.{zeroSheet, noted};
 ghost use Rattle.sheets.specs.Promises.{Small, markEntered, Enterable, Raised, WinNoted};
 use crate::Side;
-use crate::exam::behind_best;
-use crate::total::key_of;
-use crate::total::set_mark;
+use crate::mark::behind_best;
+use crate::mark::key_of;
+use crate::mark::set_mark;
 
 fn flag_word(partial: bool) -> u64
     ensures { λ r. ⌜ r ≡ cond partial 1 0 ⌝ }

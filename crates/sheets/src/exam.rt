@@ -5,10 +5,13 @@ ghost use Prim.Native.Nat.{_+_, _<_, _≤_};
 ghost use lib.Dec.{eqb, leb};
 ghost use lib.ListN.{length, getD};
 ghost use Rattle.base.specs.Words.{every, sum};
-ghost use Rattle.sheets.specs.Figures.{told, lists, markList, markDeal};
+ghost use Rattle.sheets.specs.Figures.{told, lists};
 ghost use Rattle.sheets.specs.Over.{behind};
 ghost use Rattle.sheets.specs.Good.{covered, deals, isAbsent, isBest, hasDeal, goodMark, goodSheet};
 use crate::Side;
+use crate::mark::behind_best;
+use crate::mark::deal_of;
+use crate::mark::list_of;
 
 // The sheet covers a deal number.
 pub fn covered_at(sheet: &[u64], n: usize) -> bool
@@ -59,38 +62,6 @@ pub fn adds_up(sheet: &[u64], from: usize, words: usize, total: u64) -> bool
         i += 1;
     }
     left == 0
-}
-
-// A mark's list and deal.
-pub fn list_of(sheet: &[u64], side: Side) -> u64
-    requires { ⌜ length (now sheet) ≡ 716 ⌝ }
-    ensures { λ r. ⌜ r ≡ told (now (sheet .entry)) (markList side) ⌝ }
-{
-    match side {
-        Side::Shortest => sheet[crate::SHORTEST],
-        Side::Longest => sheet[crate::LONGEST],
-    }
-}
-
-pub fn deal_of(sheet: &[u64], side: Side) -> u64
-    requires { ⌜ length (now sheet) ≡ 716 ⌝ }
-    ensures { λ r. ⌜ r ≡ told (now (sheet .entry)) (markDeal side) ⌝ }
-{
-    match side {
-        Side::Shortest => sheet[crate::SHORTEST_DEAL],
-        Side::Longest => sheet[crate::LONGEST_DEAL],
-    }
-}
-
-// How far a list is behind the best.
-pub fn behind_best(side: Side, list: u64) -> u64
-    requires { ⌜ list ≤ 200 ⌝ }
-    ensures { λ r. ⌜ r ≡ behind side list ⌝ }
-{
-    match side {
-        Side::Shortest => list,
-        Side::Longest => crate::LONGEST_LIST - list,
-    }
 }
 
 // No won list of m moves is better than a list.

@@ -2,6 +2,7 @@
 // another. Knows no cards.
 pub mod enter;
 mod exam;
+mod mark;
 pub mod total;
 
 // The words of a sheet, and where its figures stand (specs/Figures.antt).

@@ -4,14 +4,15 @@ ghost use mathlib.Core.Bool.{_&&_};
 ghost use Prim.Native.Nat.{_<_, _≤_};
 ghost use lib.ListN.{length};
 ghost use Rattle.sheets.specs.Good.{covered};
-ghost use Rattle.sheets.specs.Adding.{flagOf, sameSettings, apart, keyIn, added};
-ghost use Rattle.sheets.specs.Promises.{Addable, Roomy, Summed, Small, markSet, markChosen, Adds};
+ghost use Rattle.sheets.specs.Adding.{flagOf, sameSettings, apart, added};
+ghost use Rattle.sheets.specs.Promises.{Addable, Roomy, Summed, Small, markChosen, Adds};
 use crate::Side;
-use crate::exam::behind_best;
 use crate::exam::covered_at;
-use crate::exam::deal_of;
 use crate::exam::examine;
-use crate::exam::list_of;
+use crate::mark::deal_of;
+use crate::mark::key_of;
+use crate::mark::list_of;
+use crate::mark::set_mark;
 use board::Examined;
 use board::Refusal;
 
@@ -81,38 +82,6 @@ fn add_words(into: &mut [u64], other: &[u64], from: usize, end: usize)
         let both = mine + yours;
         into[i] = both;
         i += 1;
-    }
-}
-
-// The key of a mark.
-pub fn key_of(sheet: &[u64], side: Side) -> u64
-    requires { ⌜ Small side (now sheet) ⌝ }
-    ensures { λ r. ⌜ r ≡ keyIn side (now (sheet .entry)) ⌝ }
-{
-    let deal = deal_of(sheet, side);
-    if deal == 0 {
-        return crate::NO_KEY;
-    }
-    let list = list_of(sheet, side);
-    let back = behind_best(side, list);
-    let high = back * 32768;
-    high + deal
-}
-
-// Another mark.
-pub fn set_mark(sheet: &mut [u64], side: Side, list: u64, deal: u64)
-    requires { ⌜ length (now sheet) ≡ 716 ⌝ }
-    ensures { λ r. ⌜ now (sheet .exit) ≡ markSet side (now (sheet .entry)) list deal ⌝ }
-{
-    match side {
-        Side::Shortest => {
-            sheet[crate::SHORTEST] = list;
-            sheet[crate::SHORTEST_DEAL] = deal;
-        }
-        Side::Longest => {
-            sheet[crate::LONGEST] = list;
-            sheet[crate::LONGEST_DEAL] = deal;
-        }
     }
 }
 

@@ -5,61 +5,43 @@ use Rattle.sheets.proofs.Entering.{note-room-1, note-room-2, note-room-
 use borrow.Author.Needs.{needs}
 use Rattle.sheets.proofs.enter.note.Statement.{statement}
 use Rattle.sheets.proofs.enter.note.Tie as tie
-use Rattle.sheets.proofs.enter.note.Reads as reads
-use Rattle.sheets.proofs.enter.note.Lts as lts
-use Rattle.sheets.proofs.enter.answer_at.Reads as answer-at-reads
-use Rattle.sheets.proofs.enter.note_win.Reads as note-win-reads
-use Rattle.sheets.proofs.enter.raise.Reads as raise-reads
 
--- src/enter.rt:95:9
 answer-at-requires : tie.Need-answer-at-requires
 answer-at-requires c κs = c .before .pre .counted
 
--- src/enter.rt:96:16
 add-said : tie.Need-add-said
 add-said c = search needs
 
--- src/enter.rt:97:5
 raise-requires : tie.Need-raise-requires
 raise-requires c κs = note-room-1 (c .before .before .before .pre) (c .before .answer-at .result) (c .before .answer-at .ensures)
 
--- src/enter.rt:99:5
 raise-requires-2 : tie.Need-raise-requires-2
 raise-requires-2 c κs = note-room-2 (c .before .before .before .before .before .before .before .pre) (c .before .before .before .before .before .answer-at .result) (c .before .before .before .before .before .answer-at .ensures) (c .before .before .before .raise .ensures)
 
--- src/enter.rt:100:17
 sub-place : tie.Need-sub-place
 sub-place c = c .before .before .before .before .before .before .before .before .before .before .pre .low
 
--- src/enter.rt:104:14
 shl-by : tie.Need-shl-by
 shl-by c = omega arith
 
--- src/enter.rt:105:14
 add-at : tie.Need-add-at
 add-at c = record { fits = omega (arith, c .before .before .before .before .before .before .before .before .before .before .pre .high) }
 
--- src/enter.rt:106:5
 raise-requires-3 : tie.Need-raise-requires-3
 raise-requires-3 c κs = note-room-3 (c .before .before .before .before .before .before .before .before .before .before .before .pre) (c .before .before .before .before .before .before .before .before .before .answer-at .result) (c .before .before .before .before .before .before .before .before .before .answer-at .ensures) (c .before .before .before .before .before .before .before .raise .ensures) (c .before .before .before .raise2 .ensures) (λ i. c .before .before .before .before .before .before .before .before .before .before .slice-known .given i .fits)
 
--- src/enter.rt:108:9
 note-win-requires : tie.Need-note-win-requires
 note-win-requires c κs = note-room-4 (c .before .before .before .before .before .before .before .before .before .before .before .before .before .before .before .before .pre) (c .before .before .before .before .before .before .before .before .before .before .before .before .before .before .answer-at .result) (c .before .before .before .before .before .before .before .before .before .before .before .before .before .before .answer-at .ensures) (c .before .before .before .before .before .before .before .before .before .before .before .before .raise .ensures) (c .before .before .before .before .before .before .before .before .raise2 .ensures) (c .before .before .before .before .raise3 .ensures)
 
--- src/enter.rt:91:1
 same-length : tie.Need-same-length
 same-length c = c .before .before .note-win .kept .0 ∙ c .before .before .before .before .before .before .before .raise3 .kept .0 ∙ c .before .before .before .before .before .before .before .before .before .before .before .raise2 .kept .0 ∙ c .before .before .before .before .before .before .before .before .before .before .before .before .before .before .before .raise .kept .0
 
--- src/enter.rt:91:1
 returns : tie.Need-returns
 returns c = note-won (c .before .before .before .before .before .before .before .before .before .before .before .before .before .before .before .before .before .before .before .pre) (c .before .before .before .before .before .before .before .before .before .before .before .before .before .before .before .before .before .answer-at .result) (c .before .before .before .before .before .before .before .before .before .before .before .before .before .before .before .before .before .answer-at .ensures) (c .before .before .before .before .before .before .before .before .before .before .before .before .before .before .before .raise .ensures) (c .before .before .before .before .before .before .before .before .before .before .before .raise2 .ensures) (c .before .before .before .before .before .before .before .raise3 .ensures) (c .before .before .note-win .ensures) (c .before .before .before .before .if1 .taken)
 
--- src/enter.rt:91:1
 same-length-2 : tie.Need-same-length-2
 same-length-2 c = c .before .before .before .raise3 .kept .0 ∙ c .before .before .before .before .before .before .before .raise2 .kept .0 ∙ c .before .before .before .before .before .before .before .before .before .before .before .raise .kept .0
 
--- src/enter.rt:91:1
 returns-2 : tie.Need-returns-2
 returns-2 c = note-plain (c .before .before .before .before .before .before .before .before .before .before .before .before .before .before .before .pre) (c .before .before .before .before .before .before .before .before .before .before .before .before .before .answer-at .result) (c .before .before .before .before .before .before .before .before .before .before .before .before .before .answer-at .ensures) (c .before .before .before .before .before .before .before .before .before .before .before .raise .ensures) (c .before .before .before .before .before .before .before .raise2 .ensures) (c .before .before .before .raise3 .ensures) (c .if1 .left)
 

@@ -6,45 +6,31 @@ use Rattle.sheets.proofs.Entering.{mark-taken, mark-left}
 use borrow.Author.Needs.{needs}
 use Rattle.sheets.proofs.enter.note_mark.Statement.{statement}
 use Rattle.sheets.proofs.enter.note_mark.Tie as tie
-use Rattle.sheets.proofs.enter.note_mark.Reads as reads
-use Rattle.sheets.proofs.enter.note_mark.Lts as lts
-use Rattle.sheets.proofs.exam.behind_best.Reads as behind-best-reads
-use Rattle.sheets.proofs.total.key_of.Reads as key-of-reads
-use Rattle.sheets.proofs.total.set_mark.Reads as set-mark-reads
 
--- src/enter.rt:65:9
 key-of-requires : tie.Need-key-of-requires
 key-of-requires c κs = search needs
 
--- src/enter.rt:66:9
 behind-best-requires : tie.Need-behind-best-requires
 behind-best-requires c κs = search needs
 
--- src/enter.rt:67:16
 mul-high : tie.Need-mul-high
 mul-high c = let k = back-most (c .before .before .before .before .args .side) (c .before .before .before .before .args .sheet .now) (c .before .before .before .before .args .list) (c .behind-best .result) (c .before .before .before .before .pre .1 .0) (c .behind-best .ensures) in record { fits = omega (arith, k) }
 
--- src/enter.rt:68:15
 add-key : tie.Need-add-key
 add-key c = let k = back-most (c .before .before .before .before .args .side) (c .before .before .before .before .args .sheet .now) (c .before .before .before .before .args .list) (c .behind-best .result) (c .before .before .before .before .pre .1 .0) (c .behind-best .ensures) in let d = c .before .before .before .before .pre .1 .1 in record { fits = omega (arith, k, d) }
 
--- src/enter.rt:70:9
 set-mark-requires : tie.Need-set-mark-requires
 set-mark-requires c κs = search needs
 
--- src/enter.rt:60:1
 same-length : tie.Need-same-length
 same-length c = c .before .before .set-mark .kept .0
 
--- src/enter.rt:60:1
 returns : tie.Need-returns
 returns c = mark-taken (c .before .before .before .before .before .before .before .before .before .args .side) (c .before .before .before .before .before .before .before .before .before .args .sheet .now) (c .before .before .before .before .before .before .before .before .before .args .list) (c .before .before .before .before .before .before .before .before .before .args .deal) _ _ (c .before .before .before .before .before .before .key-of .ensures) (c .before .before .before .before .before .behind-best .ensures) _ (c .before .before .before .before .if1 .taken) (c .before .before .set-mark .ensures)
 
--- src/enter.rt:60:1
 same-length-2 : tie.Need-same-length-2
 same-length-2 c = refl
 
--- src/enter.rt:60:1
 returns-2 : tie.Need-returns-2
 returns-2 c = mark-left (c .before .before .before .before .before .args .side) (c .before .before .before .before .before .args .sheet .now) (c .before .before .before .before .before .args .list) (c .before .before .before .before .before .args .deal) _ _ (c .before .before .key-of .ensures) (c .before .behind-best .ensures) (c .if1 .left)
 

@@ -9,32 +9,22 @@ use Rattle.sheets.proofs.Entering.{win-small-1, win-small-2, win-noted}
 use borrow.Author.Needs.{needs}
 use Rattle.sheets.proofs.enter.note_win.Statement.{statement}
 use Rattle.sheets.proofs.enter.note_win.Tie as tie
-use Rattle.sheets.proofs.enter.note_win.Reads as reads
-use Rattle.sheets.proofs.enter.note_win.Lts as lts
-use Rattle.sheets.proofs.enter.note_mark.Reads as note-mark-reads
-use Rattle.sheets.proofs.enter.raise.Reads as raise-reads
 
--- src/enter.rt:82:14
 add-at : tie.Need-add-at
 add-at c = search needs
 
--- src/enter.rt:85:5
 raise-requires : tie.Need-raise-requires
 raise-requires c κs = (omega (arith, c .before .before .pre .1 .1 .0 .long, c .before .before .pre .0 .0), omega (arith, c .before .before .pre .1 .0))
 
--- src/enter.rt:86:5
 note-mark-requires : tie.Need-note-mark-requires
 note-mark-requires c κs = (win-small-1 (c .before .before .before .before .before .before .args .moves) (c .before .before .before .before .before .before .args .n) (c .before .before .before .before .before .before .pre .0 .0) (c .before .before .before .before .before .before .pre .1 .1 .0) (c .before .before .before .before .before .before .pre .1 .1 .1) (c .before .before .before .raise .ensures), c .before .before .before .before .before .before .pre .0)
 
--- src/enter.rt:87:5
 note-mark-requires-2 : tie.Need-note-mark-requires-2
 note-mark-requires-2 c κs = (subst (Small longest) (sym (c .before .before .before .note-mark .ensures)) (win-small-2 (c .before .before .before .before .before .before .before .before .before .before .args .moves) (c .before .before .before .before .before .before .before .before .before .before .args .n) (c .before .before .before .before .before .before .before .before .before .before .pre .0 .0) (c .before .before .before .before .before .before .before .before .before .before .pre .1 .1 .0) (c .before .before .before .before .before .before .before .before .before .before .pre .1 .1 .1) (c .before .before .before .before .before .before .before .raise .ensures)), c .before .before .before .before .before .before .before .before .before .before .pre .0)
 
--- src/enter.rt:75:1
 same-length : tie.Need-same-length
 same-length c = c .before .before .note-mark2 .kept .0 ∙ c .before .before .before .before .before .before .note-mark .kept .0 ∙ c .before .before .before .before .before .before .before .before .before .before .raise .kept .0
 
--- src/enter.rt:75:1
 returns : tie.Need-returns
 returns c = subst (WinNoted (c .before .before .before .before .before .before .before .before .before .before .before .before .before .args .sheet .now) (c .before .before .before .before .before .before .before .before .before .before .before .before .before .args .moves) (c .before .before .before .before .before .before .before .before .before .before .before .before .before .args .n)) (sym (c .before .before .note-mark2 .ensures ∙ ap (λ (l : List ℕ). markEntered longest l (c .before .before .before .before .before .before .before .before .before .before .before .before .before .args .moves) (c .before .before .before .before .before .before .before .before .before .before .before .before .before .args .n)) (c .before .before .before .before .before .before .note-mark .ensures))) (win-noted (c .before .before .before .before .before .before .before .before .before .before .before .before .before .args .moves) (c .before .before .before .before .before .before .before .before .before .before .before .before .before .args .n) (c .before .before .before .before .before .before .before .before .before .before .before .before .before .pre .0 .0) (c .before .before .before .before .before .before .before .before .before .before .before .before .before .pre .1 .1 .0) (c .before .before .before .before .before .before .before .before .before .before .before .before .before .pre .1 .1 .1) (c .before .before .before .before .before .before .before .before .before .before .raise .ensures))
 

@@ -3,34 +3,25 @@ use Rattle.sheets.proofs.Entering.{raised}
 use borrow.Author.Needs.{needs}
 use Rattle.sheets.proofs.enter.raise.Statement.{statement}
 use Rattle.sheets.proofs.enter.raise.Tie as tie
-use Rattle.sheets.proofs.enter.raise.Reads as reads
-use Rattle.sheets.proofs.enter.raise.Lts as lts
 
--- src/enter.rt:43:15
 mul-old : tie.Need-mul-old
 mul-old c = search needs
 
--- src/enter.rt:43:15
 slice-read-old : tie.Need-slice-read-old
 slice-read-old c = search needs
 
--- src/enter.rt:44:15
 add-new : tie.Need-add-new
 add-new c = search needs
 
--- src/enter.rt:45:5
 mul-sheet : tie.Need-mul-sheet
 mul-sheet c = search needs
 
--- src/enter.rt:45:5
 slice-write-sheet : tie.Need-slice-write-sheet
 slice-write-sheet c = search needs
 
--- src/enter.rt:38:1
 same-length : tie.Need-same-length
 same-length c = search needs
 
--- src/enter.rt:38:1
 returns : tie.Need-returns
 returns c = raised (c .before .args .sheet .now) (c .before .args .at) (c .before .args .by) (c .before .pre .0)
 

@@ -7,36 +7,25 @@ use lib.ListN.{set, length-set}
 use borrow.Author.Needs.{needs}
 use Rattle.sheets.proofs.enter.start.Statement.{statement}
 use Rattle.sheets.proofs.enter.start.Tie as tie
-use Rattle.sheets.proofs.enter.start.Reads as reads
-use Rattle.sheets.proofs.enter.start.Lts as lts
-use Rattle.base.proofs.blank.clear_longs.Reads as clear-longs-reads
-use Rattle.sheets.proofs.enter.flag_word.Reads as flag-word-reads
 
--- src/enter.rt:30:5
 clear-longs-requires : tie.Need-clear-longs-requires
 clear-longs-requires c κs = search needs
 
--- src/enter.rt:31:9
 flag-word-requires : tie.Need-flag-word-requires
 flag-word-requires c κs = search needs
 
--- src/enter.rt:32:5
 slice-write-sheet : tie.Need-slice-write-sheet
 slice-write-sheet c = omega (arith, c .before .before .before .clear-longs .kept .0, c .before .before .before .before .before .before .pre)
 
--- src/enter.rt:33:5
 slice-write-sheet-2 : tie.Need-slice-write-sheet-2
 slice-write-sheet-2 c = subst (λ (x : ℕ). 1 < x) (sym (length-set (c .before .before .before .clear-longs .last .0) 0 (c .before .before .before .before .before .before .args .budget))) (omega (arith, c .before .before .before .clear-longs .kept .0, c .before .before .before .before .before .before .pre))
 
--- src/enter.rt:34:5
 slice-write-sheet-3 : tie.Need-slice-write-sheet-3
 slice-write-sheet-3 c = subst (λ (x : ℕ). 2 < x) (sym (length-set (set (c .before .before .before .clear-longs .last .0) 0 (c .before .before .before .before .before .before .args .budget)) 1 (c .before .before .before .before .before .before .args .capacity) ∙ length-set (c .before .before .before .clear-longs .last .0) 0 (c .before .before .before .before .before .before .args .budget))) (omega (arith, c .before .before .before .clear-longs .kept .0, c .before .before .before .before .before .before .pre))
 
--- src/enter.rt:26:1
 same-length : tie.Need-same-length
 same-length c = length-set (set (set (c .before .before .before .clear-longs .last .0) 0 (c .before .before .before .before .before .before .args .budget)) 1 (c .before .before .before .before .before .before .args .capacity)) 2 (c .flag-word .result) ∙ length-set (set (c .before .before .before .clear-longs .last .0) 0 (c .before .before .before .before .before .before .args .budget)) 1 (c .before .before .before .before .before .before .args .capacity) ∙ length-set (c .before .before .before .clear-longs .last .0) 0 (c .before .before .before .before .before .before .args .budget) ∙ c .before .before .before .clear-longs .kept .0
 
--- src/enter.rt:26:1
 returns : tie.Need-returns
 returns c = started (record { budget = c .before .before .before .before .before .before .args .budget; capacity = c .before .before .before .before .before .before .args .capacity; partial = c .before .before .before .before .before .before .args .partial }) _ _ _ (c .before .before .before .before .before .before .pre) (c .before .before .before .clear-longs .ensures) (c .flag-word .ensures)
 

@@ -3,24 +3,16 @@ use Rattle.sheets.proofs.Deciding.{absent-not, absent-by}
 use borrow.Author.Needs.{needs}
 use Rattle.sheets.proofs.exam.absent.Statement.{statement}
 use Rattle.sheets.proofs.exam.absent.Tie as tie
-use Rattle.sheets.proofs.exam.absent.Reads as reads
-use Rattle.sheets.proofs.exam.absent.Lts as lts
-use Rattle.sheets.proofs.exam.deal_of.Reads as deal-of-reads
-use Rattle.sheets.proofs.exam.list_of.Reads as list-of-reads
 
--- src/exam.rt:166:9
 list-of-requires : tie.Need-list-of-requires
 list-of-requires c κs = search needs
 
--- src/exam.rt:168:9
 returns : tie.Need-returns
 returns c = absent-not _ _ _ (c .before .list-of .ensures) (c .if1 .taken)
 
--- src/exam.rt:170:9
 deal-of-requires : tie.Need-deal-of-requires
 deal-of-requires c κs = search needs
 
--- src/exam.rt:162:1
 returns-2 : tie.Need-returns-2
 returns-2 c = absent-by _ _ _ _ (c .before .before .list-of .ensures) (c .deal-of .ensures) (c .before .if1 .left)
 

@@ -6,8 +6,6 @@ use Rattle.sheets.proofs.Loops.{Taken, taken-none, taken-more, taken-ov
 use borrow.Author.Needs.{needs}
 use Rattle.sheets.proofs.exam.adds_up.Statement.{statement}
 use Rattle.sheets.proofs.exam.adds_up.Tie as tie
-use Rattle.sheets.proofs.exam.adds_up.Reads as reads
-use Rattle.sheets.proofs.exam.adds_up.Lts as lts
 
 abbrev Inv-loop : tie.InvT-loop
 Inv-loop sheet from words total left₀ i₀ left i = Taken (λ k. getD sheet (from + k) 0) words total left i
@@ -15,39 +13,30 @@ Inv-loop sheet from words total left₀ i₀ left i = Taken (λ k. getD sheet (f
 abbrev μ-loop : tie.MeasureT-loop
 μ-loop sheet from words total left₀ i₀ left i = words - i
 
--- src/exam.rt:52:5
 loop-holds : tie.Need-loop-holds Inv-loop μ-loop
 loop-holds c = taken-none _ _ _
 
--- src/exam.rt:53:18
 add-at : tie.Need-add-at Inv-loop μ-loop
 add-at c = search needs
 
--- src/exam.rt:54:20
 mul-word : tie.Need-mul-word Inv-loop μ-loop
 mul-word c = search needs
 
--- src/exam.rt:54:20
 shared-slice-read-word : tie.Need-shared-slice-read-word Inv-loop μ-loop
 shared-slice-read-word c = search needs
 
--- src/exam.rt:56:13
 returns : tie.Need-returns Inv-loop μ-loop
 returns c = taken-over (c .before .before .before .loop .inv) (c .before .before .loop-test .taken) (c .if1 .taken)
 
--- src/exam.rt:59:9
 add-i : tie.Need-add-i Inv-loop μ-loop
 add-i c = search needs
 
--- src/exam.rt:52:5
 loop-less : tie.Need-loop-less Inv-loop μ-loop
 loop-less c = search needs
 
--- src/exam.rt:52:5
 loop-again : tie.Need-loop-again Inv-loop μ-loop
 loop-again c = taken-more (c .before .before .before .loop .inv) (c .before .before .loop-test .taken) (c .if1 .left)
 
--- src/exam.rt:46:1
 returns-2 : tie.Need-returns-2 Inv-loop μ-loop
 returns-2 c = taken-end (c .before .loop .inv) (c .loop-test .left)
 

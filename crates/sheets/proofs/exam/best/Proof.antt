@@ -3,40 +3,28 @@ use Rattle.sheets.proofs.Deciding.{best-long, best-none, best-some}
 use borrow.Author.Needs.{needs}
 use Rattle.sheets.proofs.exam.best.Statement.{statement}
 use Rattle.sheets.proofs.exam.best.Tie as tie
-use Rattle.sheets.proofs.exam.best.Reads as reads
-use Rattle.sheets.proofs.exam.best.Lts as lts
-use Rattle.sheets.proofs.exam.list_of.Reads as list-of-reads
-use Rattle.sheets.proofs.exam.none_better.Reads as none-better-reads
 
--- src/exam.rt:133:9
 list-of-requires : tie.Need-list-of-requires
 list-of-requires c κs = search needs
 
--- src/exam.rt:135:9
 returns : tie.Need-returns
 returns c = best-long _ _ _ (c .before .list-of .ensures) (c .if1 .taken)
 
--- src/exam.rt:138:14
 add-at : tie.Need-add-at
 add-at c = search needs
 
--- src/exam.rt:139:8
 mul-if2 : tie.Need-mul-if2
 mul-if2 c = search needs
 
--- src/exam.rt:139:8
 shared-slice-read-if2 : tie.Need-shared-slice-read-if2
 shared-slice-read-if2 c = search needs
 
--- src/exam.rt:140:9
 returns-2 : tie.Need-returns-2
 returns-2 c = best-none _ _ _ (c .before .before .before .list-of .ensures) (c .before .before .if1 .left) (c .if2 .taken)
 
--- src/exam.rt:142:5
 none-better-requires : tie.Need-none-better-requires
 none-better-requires c κs = search needs
 
--- src/exam.rt:129:1
 returns-3 : tie.Need-returns-3
 returns-3 c = best-some _ _ _ (c .before .before .before .before .list-of .ensures) _ (c .before .before .before .if1 .left) (c .before .if2 .left) (c .none-better .ensures)
 

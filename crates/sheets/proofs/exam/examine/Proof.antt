@@ -7,73 +7,52 @@ use Rattle.sheets.proofs.Goodness.{deals-most}
 use borrow.Author.Needs.{needs}
 use Rattle.sheets.proofs.exam.examine.Statement.{statement}
 use Rattle.sheets.proofs.exam.examine.Tie as tie
-use Rattle.sheets.proofs.exam.examine.Reads as reads
-use Rattle.sheets.proofs.exam.examine.Lts as lts
-use Rattle.sheets.proofs.exam.adds_up.Reads as adds-up-reads
-use Rattle.sheets.proofs.exam.count_deals.Reads as count-deals-reads
-use Rattle.sheets.proofs.exam.right.Reads as right-reads
 
--- src/exam.rt:193:9
 returns : tie.Need-returns
 returns c = good-long _ (c .if1 .taken)
 
--- src/exam.rt:195:18
 shared-slice-read-budget : tie.Need-shared-slice-read-budget
 shared-slice-read-budget c = search needs
 
--- src/exam.rt:197:9
 returns-2 : tie.Need-returns-2
 returns-2 c = good-budget _ (c .if2 .taken)
 
--- src/exam.rt:199:9
 count-deals-requires : tie.Need-count-deals-requires
 count-deals-requires c κs = search needs
 
--- src/exam.rt:200:9
 adds-up-requires : tie.Need-adds-up-requires
 adds-up-requires c κs = search needs
 
--- src/exam.rt:201:9
 returns-3 : tie.Need-returns-3
 returns-3 c = good-answers _ _ (c .before .before .count-deals .ensures) _ (c .before .adds-up .ensures) (not-true _ (c .if3 .taken))
 
--- src/exam.rt:203:16
 shared-slice-read-wins : tie.Need-shared-slice-read-wins
 shared-slice-read-wins c = search needs
 
--- src/exam.rt:204:9
 adds-up-requires-2 : tie.Need-adds-up-requires-2
 adds-up-requires-2 c κs = search needs
 
--- src/exam.rt:205:9
 returns-4 : tie.Need-returns-4
 returns-4 c = good-lists _ _ (c .before .before .before .before .before .count-deals .ensures) _ (c .before .adds-up2 .ensures) (not-true _ (c .if4 .taken))
 
--- src/exam.rt:207:9
 right-requires : tie.Need-right-requires
 right-requires c κs = search needs
 
--- src/exam.rt:208:9
 returns-5 : tie.Need-returns-5
 returns-5 c = good-shortest _ _ (c .before .before .before .before .before .before .before .count-deals .ensures) _ (c .before .right .ensures) (not-true _ (c .if5 .taken))
 
--- src/exam.rt:210:9
 right-requires-2 : tie.Need-right-requires-2
 right-requires-2 c κs = search needs
 
--- src/exam.rt:211:9
 returns-6 : tie.Need-returns-6
 returns-6 c = good-longest _ _ (c .before .before .before .before .before .before .before .before .before .count-deals .ensures) _ (c .before .right2 .ensures) (not-true _ (c .if6 .taken))
 
--- src/exam.rt:213:16
 mul-most : tie.Need-mul-most
 mul-most c = let k = c .before .before .before .before .before .before .before .before .before .count-deals .ensures in let m = deals-most (c .before .before .before .before .before .before .before .before .before .before .before .before .before .before .args .sheet .now) in let p = pops-fit _ _ (c .before .before .before .before .before .before .before .before .before .before .if2 .left) (let z : c .before .before .before .before .before .before .before .before .before .count-deals .result ≤ 32000 = omega (arith, k, m) in z) in record { fits = omega (arith, p) }
 
--- src/exam.rt:214:5
 shared-slice-read-result : tie.Need-shared-slice-read-result
 shared-slice-read-result c = search needs
 
--- src/exam.rt:189:1
 returns-7 : tie.Need-returns-7
 returns-7 c = good-pops _ _ (c .before .before .before .before .before .before .before .before .before .before .count-deals .ensures) (c .before .before .before .before .before .before .before .before .before .before .before .before .before .if1 .left) (c .before .before .before .before .before .before .before .before .before .before .before .if2 .left) _ _ _ _ (c .before .before .before .before .before .before .before .before .before .adds-up .ensures) (not-false _ (c .before .before .before .before .before .before .before .before .if3 .left)) (c .before .before .before .before .before .before .adds-up2 .ensures) (not-false _ (c .before .before .before .before .before .if4 .left)) (c .before .before .before .before .right .ensures) (not-false _ (c .before .before .before .if5 .left)) (c .before .before .right2 .ensures) (not-false _ (c .before .if6 .left))
 

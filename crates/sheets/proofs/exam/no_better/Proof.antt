@@ -3,35 +3,25 @@ use Rattle.sheets.proofs.Deciding.{better-none, better-some}
 use borrow.Author.Needs.{needs}
 use Rattle.sheets.proofs.exam.no_better.Statement.{statement}
 use Rattle.sheets.proofs.exam.no_better.Tie as tie
-use Rattle.sheets.proofs.exam.no_better.Reads as reads
-use Rattle.sheets.proofs.exam.no_better.Lts as lts
-use Rattle.sheets.proofs.exam.behind_best.Reads as behind-best-reads
 
--- src/exam.rt:100:14
 add-at : tie.Need-add-at
 add-at c = search needs
 
--- src/exam.rt:101:8
 mul-if1 : tie.Need-mul-if1
 mul-if1 c = search needs
 
--- src/exam.rt:101:8
 shared-slice-read-if1 : tie.Need-shared-slice-read-if1
 shared-slice-read-if1 c = search needs
 
--- src/exam.rt:102:9
 returns : tie.Need-returns
 returns c = better-none (c .before .before .before .args .sheet .now) (c .before .before .before .args .side) (c .before .before .before .args .list) (c .before .before .before .args .m) (c .if1 .taken)
 
--- src/exam.rt:105:9
 behind-best-requires : tie.Need-behind-best-requires
 behind-best-requires c κs = search needs
 
--- src/exam.rt:106:9
 behind-best-requires-2 : tie.Need-behind-best-requires-2
 behind-best-requires-2 c κs = search needs
 
--- src/exam.rt:95:1
 returns-2 : tie.Need-returns-2
 returns-2 c = better-some (c .before .before .before .before .before .args .sheet .now) (c .before .before .before .before .before .args .side) (c .before .before .before .before .before .args .list) (c .before .before .before .before .before .args .m) _ _ (c .before .before .if1 .left) (c .behind-best2 .ensures) (c .before .behind-best .ensures)
 

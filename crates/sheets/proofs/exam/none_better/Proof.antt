@@ -12,9 +12,6 @@ use Rattle.sheets.proofs.Loops.{Held, held-none, held-more, held-fails,
 use borrow.Author.Needs.{needs}
 use Rattle.sheets.proofs.exam.none_better.Statement.{statement}
 use Rattle.sheets.proofs.exam.none_better.Tie as tie
-use Rattle.sheets.proofs.exam.none_better.Reads as reads
-use Rattle.sheets.proofs.exam.none_better.Lts as lts
-use Rattle.sheets.proofs.exam.no_better.Reads as no-better-reads
 
 abbrev here : List ℕ → Side → ℕ → ℕ → Bool
 here sheet side list m = eqb (told sheet (lists m)) 0 || leb (behind side list) (behind side m)
@@ -25,31 +22,24 @@ Inv-loop sheet side list m₀ m = Held (here sheet side list) 201 m
 abbrev μ-loop : tie.MeasureT-loop
 μ-loop sheet side list m₀ m = 201 - m
 
--- src/exam.rt:117:5
 loop-holds : tie.Need-loop-holds Inv-loop μ-loop
 loop-holds c = held-none _ _
 
--- src/exam.rt:118:13
 no-better-requires : tie.Need-no-better-requires Inv-loop μ-loop
 no-better-requires c κs = search needs
 
--- src/exam.rt:119:13
 returns : tie.Need-returns Inv-loop μ-loop
 returns c = held-fails (c .before .before .before .loop .inv) (c .before .before .loop-test .taken) (sym (c .before .no-better .ensures) ∙ not-true _ (c .if1 .taken))
 
--- src/exam.rt:121:9
 add-m : tie.Need-add-m Inv-loop μ-loop
 add-m c = search needs
 
--- src/exam.rt:117:5
 loop-less : tie.Need-loop-less Inv-loop μ-loop
 loop-less c = search needs
 
--- src/exam.rt:117:5
 loop-again : tie.Need-loop-again Inv-loop μ-loop
 loop-again c = held-more (c .before .before .before .loop .inv) (c .before .before .loop-test .taken) (sym (c .before .no-better .ensures) ∙ not-false _ (c .if1 .left))
 
--- src/exam.rt:111:1
 returns-2 : tie.Need-returns-2 Inv-loop μ-loop
 returns-2 c = held-end (c .before .loop .inv) (c .loop-test .left)
 

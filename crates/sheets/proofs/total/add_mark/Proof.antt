@@ -4,46 +4,31 @@ use mathlib.Core.Path.{refl}
 use borrow.Author.Needs.{needs}
 use Rattle.sheets.proofs.total.add_mark.Statement.{statement}
 use Rattle.sheets.proofs.total.add_mark.Tie as tie
-use Rattle.sheets.proofs.total.add_mark.Reads as reads
-use Rattle.sheets.proofs.total.add_mark.Lts as lts
-use Rattle.sheets.proofs.exam.deal_of.Reads as deal-of-reads
-use Rattle.sheets.proofs.exam.list_of.Reads as list-of-reads
-use Rattle.sheets.proofs.total.key_of.Reads as key-of-reads
-use Rattle.sheets.proofs.total.set_mark.Reads as set-mark-reads
 
--- src/total.rt:125:9
 key-of-requires : tie.Need-key-of-requires
 key-of-requires c κs = search needs
 
--- src/total.rt:126:9
 key-of-requires-2 : tie.Need-key-of-requires-2
 key-of-requires-2 c κs = search needs
 
--- src/total.rt:128:13
 list-of-requires : tie.Need-list-of-requires
 list-of-requires c κs = search needs
 
--- src/total.rt:129:13
 deal-of-requires : tie.Need-deal-of-requires
 deal-of-requires c κs = search needs
 
--- src/total.rt:130:9
 set-mark-requires : tie.Need-set-mark-requires
 set-mark-requires c κs = search needs
 
--- src/total.rt:120:1
 same-length : tie.Need-same-length
 same-length c = c .before .before .set-mark .kept .0
 
--- src/total.rt:120:1
 returns : tie.Need-returns
 returns c = chosen-other (c .before .before .before .before .before .before .before .before .before .before .before .before .args .side) (c .before .before .before .before .before .before .before .before .before .before .before .before .args .into .now) (c .before .before .before .before .before .before .before .before .before .before .before .before .args .other .now) _ _ (c .before .before .before .before .before .before .before .before .key-of .ensures) (c .before .before .before .before .before .before .before .key-of2 .ensures) _ _ _ (c .before .before .before .before .before .before .if1 .taken) (c .before .before .before .before .before .list-of .ensures) (c .before .before .before .before .deal-of .ensures) (c .before .before .set-mark .ensures)
 
--- src/total.rt:120:1
 same-length-2 : tie.Need-same-length-2
 same-length-2 c = refl
 
--- src/total.rt:120:1
 returns-2 : tie.Need-returns-2
 returns-2 c = chosen-own (c .before .before .before .before .before .before .args .side) (c .before .before .before .before .before .before .args .into .now) (c .before .before .before .before .before .before .args .other .now) _ _ (c .before .before .key-of .ensures) (c .before .key-of2 .ensures) (c .if1 .left)
 

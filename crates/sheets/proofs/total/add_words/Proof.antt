@@ -6,8 +6,6 @@ use Rattle.sheets.proofs.Totals.{going-in}
 use borrow.Author.Needs.{needs}
 use Rattle.sheets.proofs.total.add_words.Statement.{statement}
 use Rattle.sheets.proofs.total.add_words.Tie as tie
-use Rattle.sheets.proofs.total.add_words.Reads as reads
-use Rattle.sheets.proofs.total.add_words.Lts as lts
 
 abbrev Inv-loop : tie.InvT-loop
 Inv-loop into₀ other from end i₀ into i = Going into₀ other from end into i
@@ -15,55 +13,42 @@ Inv-loop into₀ other from end i₀ into i = Going into₀ other from end into 
 abbrev μ-loop : tie.MeasureT-loop
 μ-loop into₀ other from end i₀ into i = end - i
 
--- src/total.rt:78:5
 loop-holds : tie.Need-loop-holds Inv-loop μ-loop
 loop-holds c = going-start (c .pre)
 
--- src/total.rt:79:20
 mul-mine : tie.Need-mul-mine Inv-loop μ-loop
 mul-mine c = let m = c .before .before .pre .mine in record { fits = omega (arith, m, c .before .before .good .0 .1, c .loop-test .taken) }
 
--- src/total.rt:79:20
 slice-read-mine : tie.Need-slice-read-mine Inv-loop μ-loop
 slice-read-mine c = going-in (c .before .before .before .pre) (c .before .before .loop .inv) (c .before .loop-test .taken)
 
--- src/total.rt:80:21
 mul-yours : tie.Need-mul-yours Inv-loop μ-loop
 mul-yours c = let m = c .before .before .before .pre .mine in record { fits = omega (arith, m, c .before .before .before .good .0 .1, c .before .loop-test .taken) }
 
--- src/total.rt:80:21
 shared-slice-read-yours : tie.Need-shared-slice-read-yours Inv-loop μ-loop
 shared-slice-read-yours c = omega (arith, c .before .before .before .before .pre .yours, c .before .before .loop-test .taken)
 
--- src/total.rt:81:20
 add-both : tie.Need-add-both Inv-loop μ-loop
 add-both c = record { fits = going-fits (c .before .before .before .before .pre) (c .before .before .before .loop .inv) (c .before .before .loop-test .taken) }
 
--- src/total.rt:82:9
 mul-into : tie.Need-mul-into Inv-loop μ-loop
 mul-into c = let m = c .before .before .before .before .pre .mine in record { fits = omega (arith, m, c .before .before .before .before .good .0 .1, c .before .before .loop-test .taken) }
 
--- src/total.rt:82:9
 slice-write-into : tie.Need-slice-write-into Inv-loop μ-loop
 slice-write-into c = going-in (c .before .before .before .before .pre) (c .before .before .before .loop .inv) (c .before .before .loop-test .taken)
 
--- src/total.rt:83:9
 add-i : tie.Need-add-i Inv-loop μ-loop
 add-i c = search needs
 
--- src/total.rt:78:5
 loop-less : tie.Need-loop-less Inv-loop μ-loop
 loop-less c = search needs
 
--- src/total.rt:78:5
 loop-again : tie.Need-loop-again Inv-loop μ-loop
 loop-again c = going-turn (c .before .before .before .before .pre) (c .before .before .before .loop .inv) (c .before .before .loop-test .taken)
 
--- src/total.rt:73:1
 same-length : tie.Need-same-length Inv-loop μ-loop
 same-length c = c .before .loop .inv .upto .long
 
--- src/total.rt:73:1
 returns : tie.Need-returns Inv-loop μ-loop
 returns c = going-end (c .before .before .pre) (c .before .loop .inv) (c .loop-test .left)
 

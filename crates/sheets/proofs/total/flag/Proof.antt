@@ -3,14 +3,10 @@ use Rattle.sheets.proofs.Totals.{flag-no, flag-yes}
 use borrow.Author.Needs.{needs}
 use Rattle.sheets.proofs.total.flag.Statement.{statement}
 use Rattle.sheets.proofs.total.flag.Tie as tie
-use Rattle.sheets.proofs.total.flag.Reads as reads
-use Rattle.sheets.proofs.total.flag.Lts as lts
 
--- src/total.rt:23:9
 returns : tie.Need-returns
 returns c = flag-no _ (c .if1 .taken)
 
--- src/total.rt:19:1
 returns-2 : tie.Need-returns-2
 returns-2 c = flag-yes _ (c .if1 .left)
 

@@ -4,23 +4,16 @@ use borrow.Author.Tests.{not-true, not-false}
 use borrow.Author.Needs.{needs}
 use Rattle.sheets.proofs.total.in_both.Statement.{statement}
 use Rattle.sheets.proofs.total.in_both.Tie as tie
-use Rattle.sheets.proofs.total.in_both.Reads as reads
-use Rattle.sheets.proofs.total.in_both.Lts as lts
-use Rattle.sheets.proofs.exam.covered_at.Reads as covered-at-reads
 
--- src/total.rt:50:9
 covered-at-requires : tie.Need-covered-at-requires
 covered-at-requires c κs = search needs
 
--- src/total.rt:51:9
 returns : tie.Need-returns
 returns c = both-not (c .before .before .before .before .args .a .now) (c .before .before .before .before .args .b .now) (c .before .before .before .before .args .n) _ (c .before .covered-at .ensures) (not-true _ (c .if1 .taken))
 
--- src/total.rt:53:5
 covered-at-requires-2 : tie.Need-covered-at-requires-2
 covered-at-requires-2 c κs = search needs
 
--- src/total.rt:45:1
 returns-2 : tie.Need-returns-2
 returns-2 c = both-by (c .before .before .before .before .before .args .a .now) (c .before .before .before .before .before .args .b .now) (c .before .before .before .before .before .args .n) _ _ (c .before .before .covered-at .ensures) (not-false _ (c .before .if1 .left)) (c .covered-at2 .ensures)
 

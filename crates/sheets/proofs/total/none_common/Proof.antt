@@ -5,9 +5,6 @@ use Rattle.sheets.proofs.Loops.{Held, held-none}
 use borrow.Author.Needs.{needs}
 use Rattle.sheets.proofs.total.none_common.Statement.{statement}
 use Rattle.sheets.proofs.total.none_common.Tie as tie
-use Rattle.sheets.proofs.total.none_common.Reads as reads
-use Rattle.sheets.proofs.total.none_common.Lts as lts
-use Rattle.sheets.proofs.total.in_both.Reads as in-both-reads
 
 abbrev Inv-loop : tie.InvT-loop
 Inv-loop a b i₀ i = Held (alone a b) 32000 i
@@ -15,31 +12,24 @@ Inv-loop a b i₀ i = Held (alone a b) 32000 i
 abbrev μ-loop : tie.MeasureT-loop
 μ-loop a b i₀ i = 32000 - i
 
--- src/total.rt:62:5
 loop-holds : tie.Need-loop-holds Inv-loop μ-loop
 loop-holds c = held-none _ _
 
--- src/total.rt:63:17
 add-n : tie.Need-add-n Inv-loop μ-loop
 add-n c = search needs
 
--- src/total.rt:64:12
 in-both-requires : tie.Need-in-both-requires Inv-loop μ-loop
 in-both-requires c κs = search needs
 
--- src/total.rt:65:13
 returns : tie.Need-returns Inv-loop μ-loop
 returns c = common-one (c .before .before .before .before .before .before .args .a .now) (c .before .before .before .before .before .before .args .b .now) (c .before .before .before .loop .inv) (c .before .before .loop-test .taken) _ (c .before .in-both .ensures) (c .if1 .taken)
 
--- src/total.rt:62:5
 loop-less : tie.Need-loop-less Inv-loop μ-loop
 loop-less c = search needs
 
--- src/total.rt:62:5
 loop-again : tie.Need-loop-again Inv-loop μ-loop
 loop-again c = common-none (c .before .before .before .before .before .before .args .a .now) (c .before .before .before .before .before .before .args .b .now) (c .before .before .before .loop .inv) (c .before .before .loop-test .taken) _ (c .before .in-both .ensures) (c .if1 .left)
 
--- src/total.rt:57:1
 returns-2 : tie.Need-returns-2 Inv-loop μ-loop
 returns-2 c = common-end (c .before .before .before .before .args .a .now) (c .before .before .before .before .args .b .now) (c .before .loop .inv) (c .loop-test .left)
 

@@ -1,28 +1,21 @@
 -- What `behind_best` leaves to be shown: by the side.
 use Rattle.sheets.proofs.Deciding.{behind-short, behind-long}
 use borrow.Author.Needs.{needs}
-use Rattle.sheets.proofs.exam.behind_best.Statement.{statement}
-use Rattle.sheets.proofs.exam.behind_best.Tie as tie
-use Rattle.sheets.proofs.exam.behind_best.Reads as reads
-use Rattle.sheets.proofs.exam.behind_best.Lts as lts
+use Rattle.sheets.proofs.mark.behind_best.Statement.{statement}
+use Rattle.sheets.proofs.mark.behind_best.Tie as tie
 
--- src/exam.rt:89:27
 enum-told : tie.Need-enum-told
 enum-told c = search needs
 
--- src/exam.rt:90:26
 enum-told-2 : tie.Need-enum-told-2
 enum-told-2 c = search needs
 
--- src/exam.rt:90:26
 sub-result : tie.Need-sub-result
 sub-result c = search needs
 
--- src/exam.rt:84:1
 returns : tie.Need-returns
 returns c = behind-short _ _ (c .enum-told .given .1)
 
--- src/exam.rt:84:1
 returns-2 : tie.Need-returns-2
 returns-2 c = behind-long _ _ (c .enum-told2 .given .1)
 

@@ -1,32 +1,24 @@
 -- What `list_of` leaves to be shown: by the side.
 use Rattle.sheets.proofs.Deciding.{list-short, list-long}
 use borrow.Author.Needs.{needs}
-use Rattle.sheets.proofs.exam.list_of.Statement.{statement}
-use Rattle.sheets.proofs.exam.list_of.Tie as tie
-use Rattle.sheets.proofs.exam.list_of.Reads as reads
-use Rattle.sheets.proofs.exam.list_of.Lts as lts
+use Rattle.sheets.proofs.mark.list_of.Statement.{statement}
+use Rattle.sheets.proofs.mark.list_of.Tie as tie
 
--- src/exam.rt:70:27
 enum-told : tie.Need-enum-told
 enum-told c = search needs
 
--- src/exam.rt:70:27
 shared-slice-read-result : tie.Need-shared-slice-read-result
 shared-slice-read-result c = search needs
 
--- src/exam.rt:71:26
 enum-told-2 : tie.Need-enum-told-2
 enum-told-2 c = search needs
 
--- src/exam.rt:71:26
 shared-slice-read-result-2 : tie.Need-shared-slice-read-result-2
 shared-slice-read-result-2 c = search needs
 
--- src/exam.rt:65:1
 returns : tie.Need-returns
 returns c = list-short _ _ (c .before .enum-told .given .1)
 
--- src/exam.rt:65:1
 returns-2 : tie.Need-returns-2
 returns-2 c = list-long _ _ (c .before .enum-told2 .given .1)
 

@@ -1,48 +1,36 @@
 -- What `set_mark` leaves to be shown: by the side.
 use Rattle.sheets.proofs.Totals.{set-short, set-long}
 use borrow.Author.Needs.{needs}
-use Rattle.sheets.proofs.total.set_mark.Statement.{statement}
-use Rattle.sheets.proofs.total.set_mark.Tie as tie
-use Rattle.sheets.proofs.total.set_mark.Reads as reads
-use Rattle.sheets.proofs.total.set_mark.Lts as lts
+use Rattle.sheets.proofs.mark.set_mark.Statement.{statement}
+use Rattle.sheets.proofs.mark.set_mark.Tie as tie
 
--- src/total.rt:109:13
 enum-told : tie.Need-enum-told
 enum-told c = search needs
 
--- src/total.rt:109:13
 slice-write-sheet : tie.Need-slice-write-sheet
 slice-write-sheet c = search needs
 
--- src/total.rt:110:13
 slice-write-sheet-2 : tie.Need-slice-write-sheet-2
 slice-write-sheet-2 c = search needs
 
--- src/total.rt:113:13
 enum-told-2 : tie.Need-enum-told-2
 enum-told-2 c = search needs
 
--- src/total.rt:113:13
 slice-write-sheet-3 : tie.Need-slice-write-sheet-3
 slice-write-sheet-3 c = search needs
 
--- src/total.rt:114:13
 slice-write-sheet-4 : tie.Need-slice-write-sheet-4
 slice-write-sheet-4 c = search needs
 
--- src/total.rt:103:1
 same-length : tie.Need-same-length
 same-length c = search needs
 
--- src/total.rt:103:1
 returns : tie.Need-returns
 returns c = set-short (c .before .before .args .side) (c .before .before .args .sheet .now) (c .before .before .args .list) (c .before .before .args .deal) (c .enum-told .given .1)
 
--- src/total.rt:103:1
 same-length-2 : tie.Need-same-length-2
 same-length-2 c = search needs
 
--- src/total.rt:103:1
 returns-2 : tie.Need-returns-2
 returns-2 c = set-long (c .before .before .args .side) (c .before .before .args .sheet .now) (c .before .before .args .list) (c .before .before .args .deal) (c .enum-told2 .given .1)
 
