@@ -3,19 +3,19 @@ use mathlib.Core.Path.{_≡_, refl, sym, ap, ap₂, _∙_, subst}
 use mathlib.Core.Bool.{Bool, true, false, cond, _&&_, _||_}
 use mathlib.Core.List.{List}
 use Prim.Native.Nat.{ℕ, zero, suc, min, _+_, _*_, _<_, _≤_}
-use native.Mathlib.Nat.{not-suc-le-zero, mul-le-mul-left}
+use native.Mathlib.Nat.{not-suc-le-zero}
 use native.Mathlib.Omega.{arith}
-use native.Mathlib.Decide.{ℕ-discrete, decLt, decLe}
+use native.Mathlib.Decide.{decLt}
 use borrow.Author.Tests.{lt-ltb, le-ltb}
 use lib.Dec.{eqb, ltb}
 use Rattle.base.specs.Words.{sum}
-use Rattle.base.specs.Answer.{Answer, given, refused, unless}
+use Rattle.base.specs.Answer.{given, unless}
 use Rattle.base.proofs.Answers.{given-by}
-use Rattle.base.proofs.Words.{first, second, both, true-or-not, not-so, same-test}
+use Rattle.base.proofs.Words.{first, second, same-test}
 use Rattle.base.proofs.Sums.{sum-same, sum-add, sum-part}
 use Rattle.sheets.specs.declared.Side.{Side}
 use Rattle.sheets.specs.Figures.{Figure, theBudget, theCapacity, theFlag, answers, allPops, markList, markDeal, lists, covers, told}
-use Rattle.sheets.specs.Over.{Settings, Result, over, behind, keyOf, noKey, keyList, keyDeal, figureOver, sheetOver, between}
+use Rattle.sheets.specs.Over.{Settings, Result, behind, keyList, keyDeal, figureOver, sheetOver, between}
 use Rattle.sheets.specs.Good.{covered, deals, wins, goodMark, goodSheet}
 use Rattle.sheets.specs.Adding.{flagOf, sameSettings, apart, keyIn, better, addedFigure, added, addAsked}
 use Rattle.sheets.proofs.Reading.{Stands, words-same}
@@ -23,7 +23,7 @@ use Rattle.sheets.proofs.Covers.{covered-added, covered-is}
 use Rattle.sheets.proofs.Overs.{over-same, over-or}
 use Rattle.sheets.proofs.Joined.{lesser-by, over-tells}
 use Rattle.sheets.proofs.Entered.{between-apart, runs-add}
-use Rattle.sheets.proofs.Goodness.{Marked, Unmarked, mark-none, mark-some, none-good, some-good, IsGood, good-is, is-good, Answered, sheet-good}
+use Rattle.sheets.proofs.Goodness.{Marked, mark-none, mark-some, none-good, some-good, IsGood, good-is, is-good, Answered, sheet-good}
 use Rattle.sheets.proofs.Sums.{Same, same-is, is-same, apart-at, apart-by, added-tells, added-long, key-added, key-none, key-some, key-below, key-tells}
 
 -- ---- the mark of a sum: x has the better one

@@ -1,10 +1,9 @@
 -- What `add` says and leaves, refusal by refusal.
-use mathlib.Core.Path.{_≡_, refl, sym, ap, _∙_}
-use mathlib.Core.Bool.{Bool, true, false, _&&_}
+use mathlib.Core.Path.{_≡_, refl, sym, _∙_}
+use mathlib.Core.Bool.{Bool, true, false}
 use mathlib.Core.List.{List}
 use Prim.Native.Nat.{ℕ}
 use lib.ListN.{length}
-use Rattle.board.specs.declared.Examined.{Examined}
 use Rattle.board.specs.declared.Examined.the-variants.{WellFormed, Refused}
 use Rattle.board.specs.declared.Refusal.the-variants.{WrongSheet, OtherSettings, CommonDeal}
 use Rattle.sheets.specs.Good.{goodSheet}

@@ -1,13 +1,13 @@
 -- Words with a bit a number: what a word of given bits tells, and words that share no bit added.
 use mathlib.Core.Path.{_≡_, refl, sym, ap, _∙_, subst}
 use mathlib.Core.Bool.{Bool, true, false, cond}
-use Prim.Native.Nat.{ℕ, zero, suc, _+_, _*_, _/_, _%_, _^_, _<_, _≤_}
+use Prim.Native.Nat.{ℕ, zero, suc, _+_, _/_, _%_, _^_, _<_, _≤_}
 use native.Mathlib.Nat.{pow-suc, not-suc-le-zero, pow-zero, div-eq-of-lt}
 use native.Mathlib.Omega.{arith}
 use native.Mathlib.Decide.{ℕ-discrete}
 use Rattle.base.specs.Words.{sum}
 use Rattle.board.specs.Inner.{bitAt}
-use Rattle.board.proofs.Bits.{bit-first, bit-next, bit-small, bit-here, bit-other}
+use Rattle.board.proofs.Bits.{bit-first, bit-next, bit-here, bit-other}
 
 -- the word whose bit b is what f says
 abbrev pub packed : ℕ → (ℕ → Bool) → ℕ

@@ -2,10 +2,9 @@
 use mathlib.Core.Path.{_≡_, refl, sym, ap, _∙_, subst}
 use mathlib.Core.Bool.{Bool, true, false, cond, not, _&&_, _||_}
 use mathlib.Core.List.{List}
-use Prim.Native.Nat.{ℕ, zero, suc, _+_, _*_, _-_, _/_, _%_, _^_, _<_, _≤_}
+use Prim.Native.Nat.{ℕ, zero, suc, _+_, _*_, _-_, _/_, _%_, _<_, _≤_}
 use native.Mathlib.Omega.{arith}
 use lib.Dec.{eqb}
-use Rattle.base.specs.Words.{sum}
 use Rattle.base.proofs.Words.{every-at}
 use Rattle.board.specs.Inner.{bitAt}
 use Rattle.board.proofs.Bits.{bit-small}
@@ -14,7 +13,7 @@ use Rattle.sheets.specs.Over.{Settings, Result, figureOver, sheetOver}
 use Rattle.sheets.specs.Good.{covered}
 use Rattle.sheets.specs.Adding.{apart, addedFigure, added}
 use Rattle.sheets.proofs.Reading.{words-tell}
-use Rattle.sheets.proofs.Bits.{packed, packed-bit, joined-bit}
+use Rattle.sheets.proofs.Bits.{packed-bit, joined-bit}
 
 pub covered-at : (a : List ℕ) (i : ℕ) → covered a (suc i) ≡ eqb (bitAt (told a (covers (i / 64))) (i % 64)) 1
 unfolding covered

@@ -1,20 +1,19 @@
 -- What the tests of an examination decide, one at a time.
 use mathlib.Core.Path.{_≡_, refl, sym, ap, ap₂, _∙_, subst}
-use mathlib.Core.Bool.{Bool, true, false, cond, _&&_, _||_}
+use mathlib.Core.Bool.{Bool, true, false, _&&_, _||_}
 use mathlib.Core.List.{List}
-use Prim.Native.Nat.{ℕ, zero, suc, _+_, _*_, _-_, _/_, _%_, _^_, _<_, _≤_}
+use Prim.Native.Nat.{ℕ, _+_, _*_, _-_, _/_, _%_, _^_, _<_, _≤_}
 use native.Mathlib.Nat.{mul-le-mul}
 use native.Mathlib.Omega.{arith}
 use borrow.Author.Tests.{eq-eqb, ne-eqb, lt-ltb, le-ltb, le-leb, lt-leb}
-use lib.Dec.{eqb, leb, ltb}
+use lib.Dec.{eqb, leb}
 use lib.ListN.{length, getD}
 use Rattle.base.specs.Words.{every, sum}
 use Rattle.base.proofs.Words.{second-fails, first-fails}
-use Rattle.base.proofs.Sums.{sum-same}
 use Rattle.board.specs.Inner.{bitAt}
 use Rattle.sheets.specs.declared.Side.{Side}
 use Rattle.sheets.specs.declared.Side.the-variants.{Shortest as shortest, Longest as longest}
-use Rattle.sheets.specs.Figures.{theBudget, answers, allPops, markList, markDeal, lists, covers, told}
+use Rattle.sheets.specs.Figures.{theBudget, answers, allPops, markList, markDeal, lists, told}
 use Rattle.sheets.specs.Over.{behind}
 use Rattle.sheets.specs.Good.{covered, deals, wins, isAbsent, isBest, hasDeal, goodMark, goodSheet}
 

@@ -1,11 +1,11 @@
 -- One deal more: what entering its result makes of a sheet is the sheet over that deal too. Runs of deals.
-use mathlib.Core.Path.{_≡_, refl, sym, ap, ap₂, _∙_, subst, fun-ext}
+use mathlib.Core.Path.{_≡_, refl, sym, ap, ap₂, _∙_, fun-ext}
 use mathlib.Core.Bool.{Bool, true, false, cond, _&&_, _||_}
 use mathlib.Core.List.{List}
-use Prim.Native.Nat.{ℕ, zero, suc, min, _+_, _*_, _-_, _/_, _%_, _^_, _<_, _≤_}
+use Prim.Native.Nat.{ℕ, suc, min, _+_, _*_, _-_, _/_, _%_, _^_, _<_, _≤_}
 use native.Mathlib.Omega.{arith}
-use native.Mathlib.Decide.{ℕ-discrete, decLt, decLe}
-use borrow.Author.Tests.{eq-eqb, ne-eqb, eqb-true, lt-ltb, le-ltb, le-leb, lt-leb, leb-true}
+use native.Mathlib.Decide.{ℕ-discrete, decLe}
+use borrow.Author.Tests.{eq-eqb, ne-eqb, eqb-true, le-leb, leb-true}
 use lib.Dec.{eqb, ltb, leb}
 use lib.ListN.{getD}
 use Rattle.base.specs.Words.{sum}
@@ -13,12 +13,12 @@ use Rattle.base.proofs.Words.{not-so, true-or-not, first, second, both, same-te
 use Rattle.base.proofs.Sums.{sum-zero, sum-one}
 use Rattle.sheets.specs.declared.Side.{Side}
 use Rattle.sheets.specs.Figures.{answersCounted, Figure, theBudget, theCapacity, theFlag, answers, allPops, markList, markDeal, lists, covers, told}
-use Rattle.sheets.specs.Over.{Settings, Result, won, over, keyOf, noKey, least, bestKey, keyList, keyDeal, figureOver, sheetOver, between}
-use Rattle.sheets.specs.Adding.{keyIn, added}
+use Rattle.sheets.specs.Over.{Settings, Result, won, over, keyOf, noKey, bestKey, keyList, keyDeal, figureOver, sheetOver, between}
+use Rattle.sheets.specs.Adding.{added}
 use Rattle.sheets.specs.Noted.{leads, notedFigure, noted}
 use Rattle.sheets.proofs.Reading.{Stands, words-same}
 use Rattle.sheets.proofs.Overs.{over-or, over-single}
-use Rattle.sheets.proofs.Marks.{least-same, least-one, best-or, best-most, mark-below, mark-list, mark-deal, key-over}
+use Rattle.sheets.proofs.Marks.{least-one, best-or, best-most, mark-below, mark-list, mark-deal, key-over}
 use Rattle.sheets.proofs.Joined.{over-tells, lesser-by, covers-or, sum-of-sheets}
 
 -- ---- one deal alone

@@ -1,8 +1,8 @@
 -- A sheet started, and one deal's result entered, step by step.
 use mathlib.Core.Path.{_≡_, refl, sym, ap, ap₂, _∙_, subst}
-use mathlib.Core.Bool.{Bool, true, false, cond, _&&_}
+use mathlib.Core.Bool.{Bool, true, false, cond}
 use mathlib.Core.List.{List}
-use Prim.Native.Nat.{ℕ, zero, suc, _+_, _*_, _-_, _/_, _%_, _^_, _<_, _≤_}
+use Prim.Native.Nat.{ℕ, _+_, _*_, _-_, _/_, _%_, _^_, _<_, _≤_}
 use native.Mathlib.Omega.{arith}
 use native.Mathlib.Decide.{ℕ-discrete, decLt}
 use borrow.Author.Tests.{eq-eqb, ne-eqb, eqb-true, lt-ltb, le-ltb}
@@ -17,12 +17,12 @@ use Rattle.board.specs.Inner.{bitAt}
 use Rattle.board.proofs.Bits.{bit-small, bit-word, bit-fits}
 use Rattle.sheets.specs.declared.Side.{Side}
 use Rattle.sheets.specs.declared.Side.the-variants.{Shortest as shortest, Longest as longest}
-use Rattle.sheets.specs.Figures.{answersCounted, Figure, theBudget, theCapacity, theFlag, answers, allPops, markList, markDeal, lists, covers, placeOf, told}
+use Rattle.sheets.specs.Figures.{answersCounted, Figure, theBudget, theCapacity, theFlag, answers, allPops, markList, markDeal, lists, covers, told}
 use Rattle.sheets.specs.Over.{Settings, Result, won, behind, keyOf}
-use Rattle.sheets.specs.Good.{covered, goodSheet}
+use Rattle.sheets.specs.Good.{covered}
 use Rattle.sheets.specs.Adding.{keyIn}
 use Rattle.sheets.specs.Noted.{noFigure, zeroSheet, notedFigure, noted}
-use Rattle.sheets.specs.Promises.{Small, markSet, markWhen, markEntered, Enterable, Raised, WinNoted}
+use Rattle.sheets.specs.Promises.{Small, markSet, markEntered, Enterable, Raised, WinNoted}
 use Rattle.sheets.proofs.Reading.{Stands, same-words, words-tell, words-long, told-at}
 use Rattle.sheets.proofs.Goodness.{IsGood, good-is, deals-most, answers-most, lists-most}
 use Rattle.sheets.proofs.Deciding.{pops-fit}

@@ -2,9 +2,9 @@
 use mathlib.Core.Path.{_≡_, refl, sym, ap, ap₂, _∙_, subst}
 use mathlib.Core.Bool.{Bool, true, false, cond}
 use mathlib.Core.List.{List}
-use Prim.Native.Nat.{ℕ, zero, suc, _+_, _*_, _-_, _^_, _<_, _≤_}
+use Prim.Native.Nat.{ℕ, _+_, _-_, _^_, _<_, _≤_}
 use native.Mathlib.Omega.{arith}
-use native.Mathlib.Decide.{ℕ-discrete, decLt}
+use native.Mathlib.Decide.{decLt}
 use lib.Dec.{eqb, ltb}
 use lib.ListN.{length, getD, set, length-set}
 use lib.Seq.{getD-set-same, getD-set-other}
@@ -12,7 +12,7 @@ use Rattle.sheets.specs.declared.Side.{Side}
 use Rattle.sheets.specs.declared.Side.the-variants.{Shortest as shortest, Longest as longest}
 use Rattle.sheets.specs.Figures.{Figure, theBudget, theCapacity, theFlag, answers, allPops, markList, markDeal, lists, covers, placeOf, told}
 use Rattle.sheets.specs.Over.{noKey, keyOf}
-use Rattle.sheets.specs.Good.{wins, goodSheet}
+use Rattle.sheets.specs.Good.{wins}
 use Rattle.sheets.specs.Adding.{flagOf, apart, keyIn, better, addedFigure, added}
 use Rattle.sheets.specs.Promises.{Addable, Roomy, Summed, Small, markSet, markWhen, markChosen}
 use Rattle.sheets.proofs.Reading.{Stands, same-words, told-at}

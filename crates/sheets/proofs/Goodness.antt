@@ -3,24 +3,24 @@ use mathlib.Core.Path.{_≡_, refl, sym, ap, ap₂, _∙_, subst}
 use mathlib.Core.Bool.{Bool, true, false, cond, _&&_, _||_}
 use mathlib.Core.List.{List}
 use mathlib.Core.Logic.{_⊎_, inl, inr}
-use Prim.Native.Nat.{ℕ, zero, suc, _+_, _*_, _/_, _%_, _<_, _≤_}
+use Prim.Native.Nat.{ℕ, suc, _*_, _<_, _≤_}
 use native.Mathlib.Omega.{arith}
-use native.Mathlib.Decide.{ℕ-discrete, decLt, decLe}
+use native.Mathlib.Decide.{ℕ-discrete, decLt}
 use borrow.Author.Tests.{eq-eqb, ne-eqb, eqb-true, lt-ltb, ltb-true, le-leb, leb-true}
 use lib.Dec.{eqb, ltb, leb}
 use lib.ListN.{length, getD}
 use Rattle.base.specs.Words.{every, sum, occurs}
-use Rattle.base.proofs.Words.{first, second, both, every-at, every-by, true-or-not, not-so}
+use Rattle.base.proofs.Words.{first, second, both, every-at, every-by}
 use Rattle.base.proofs.Sums.{sum-same, sum-zero, sum-one, sum-part}
 use Rattle.sheets.specs.declared.Side.{Side}
 use Rattle.sheets.specs.declared.Side.the-variants.{Shortest as shortest, Longest as longest}
-use Rattle.sheets.specs.Figures.{answersCounted, Figure, theBudget, answers, allPops, markList, markDeal, lists, told}
+use Rattle.sheets.specs.Figures.{answersCounted, theBudget, answers, allPops, markList, markDeal, lists, told}
 use Rattle.sheets.specs.Over.{Settings, Result, won, over, behind, keyOf, noKey, bestKey, keyList, keyDeal, figureOver, sheetOver}
 use Rattle.sheets.specs.Good.{covered, deals, wins, isAbsent, isBest, hasDeal, goodMark, goodSheet}
-use Rattle.sheets.proofs.Reading.{Stands, words-long}
+use Rattle.sheets.proofs.Reading.{words-long}
 use Rattle.sheets.proofs.Covers.{covered-is}
 use Rattle.sheets.proofs.Overs.{over-same, over-most, over-part, over-some, over-count, over-times, over-swap}
-use Rattle.sheets.proofs.Marks.{behind-most, best-below, best-is, mark-below, mark-behind, mark-list, mark-deal, no-list, no-deal}
+use Rattle.sheets.proofs.Marks.{best-below, best-is, mark-below, mark-list, mark-deal, no-list, no-deal}
 use Rattle.sheets.proofs.Joined.{over-tells}
 
 -- ---- clause by clause

@@ -1,25 +1,24 @@
 -- The sum of two sheets is the sheet over both; one deal more; no deal.
-use mathlib.Core.Path.{_≡_, refl, sym, ap, ap₂, _∙_, subst}
+use mathlib.Core.Path.{_≡_, refl, sym, ap, ap₂, _∙_}
 use mathlib.Core.Bool.{Bool, true, false, cond, _&&_, _||_}
 use mathlib.Core.List.{List}
-use mathlib.Core.Logic.{_⊎_, inl, inr}
-use Prim.Native.Nat.{ℕ, zero, suc, min, _+_, _*_, _-_, _/_, _%_, _^_, _<_, _≤_}
+use Prim.Native.Nat.{ℕ, suc, min, _+_, _*_, _^_, _<_}
 use native.Mathlib.Omega.{arith}
-use native.Mathlib.Decide.{ℕ-discrete, decLt}
-use borrow.Author.Tests.{eq-eqb, ne-eqb, eqb-true, lt-ltb, le-ltb}
+use native.Mathlib.Decide.{decLt}
+use borrow.Author.Tests.{lt-ltb, le-ltb}
 use lib.Dec.{eqb, ltb}
 use lib.ListN.{getD}
 use Rattle.base.specs.Words.{sum}
-use Rattle.base.proofs.Words.{not-so, true-or-not}
-use Rattle.base.proofs.Sums.{sum-same, sum-add, sum-zero, sum-one}
+use Rattle.base.proofs.Words.{true-or-not}
+use Rattle.base.proofs.Sums.{sum-same, sum-add, sum-zero}
 use Rattle.sheets.specs.declared.Side.{Side}
 use Rattle.sheets.specs.Figures.{answersCounted, Figure, theBudget, theCapacity, theFlag, answers, allPops, markList, markDeal, lists, covers, told}
-use Rattle.sheets.specs.Over.{Settings, Result, won, over, keyOf, noKey, least, bestKey, keyList, keyDeal, figureOver, sheetOver}
-use Rattle.sheets.specs.Adding.{flagOf, keyIn, better, addedFigure, added}
-use Rattle.sheets.specs.Noted.{noFigure, zeroSheet, leads, notedFigure, noted}
+use Rattle.sheets.specs.Over.{Settings, Result, won, over, keyOf, noKey, bestKey, keyList, keyDeal, figureOver, sheetOver}
+use Rattle.sheets.specs.Adding.{flagOf, better, addedFigure, added}
+use Rattle.sheets.specs.Noted.{noFigure, zeroSheet}
 use Rattle.sheets.proofs.Reading.{Stands, words-tell, words-same}
-use Rattle.sheets.proofs.Overs.{over-or, over-single, over-none}
-use Rattle.sheets.proofs.Marks.{least-same, least-always, best-or, best-most, mark-below, mark-list, mark-deal, no-list, no-deal, key-over}
+use Rattle.sheets.proofs.Overs.{both-parts, over-or, over-none}
+use Rattle.sheets.proofs.Marks.{least-same, least-always, best-or, no-list, no-deal, key-over}
 
 -- what a sheet over some deals tells
 pub over-tells : (s : Settings) (r : ℕ → Result) (p : ℕ → Bool) (g : Figure) → Stands g → told (sheetOver s r p) g ≡ figureOver s r p g
@@ -37,11 +36,6 @@ lesser-by f a b = by-order (decLt b a)
     by-order (yes h) = rw (lt-ltb b a h) (ap f (let q : b ≡ min a b = omega arith in q))
     by-order (no h) = rw (le-ltb b a (omega arith)) (ap f (let q : a ≡ min a b = omega arith in q))
 
-both-bits : (a b : Bool) (x : ℕ) → (a && b) ≡ false → cond a x 0 + cond b x 0 ≡ cond (a || b) x 0
-both-bits true true x e = true-or-not true refl e
-both-bits true false x e = omega arith
-both-bits false b x e = omega arith
-
 -- the bits of two sets of deals, in one word
 pub covers-or :
     (p q : ℕ → Bool) → ((i : ℕ) → i < 32000 → (p (suc i) && q (suc i)) ≡ false) → (w : ℕ) → w < 500
@@ -51,7 +45,7 @@ covers-or p q none w h =
     sym (sum-add (λ b. cond (p (suc (64 * w + b))) (2 ^ b) 0) (λ b. cond (q (suc (64 * w + b))) (2 ^ b) 0) 64)
     ∙ sum-same (λ b. cond (p (suc (64 * w + b))) (2 ^ b) 0 + cond (q (suc (64 * w + b))) (2 ^ b) 0)
     (λ b. cond (p (suc (64 * w + b)) || q (suc (64 * w + b))) (2 ^ b) 0) 64
-    (λ b l. both-bits (p (suc (64 * w + b))) (q (suc (64 * w + b))) (2 ^ b) (none (64 * w + b) (omega arith)))
+    (λ b l. sym (both-parts (p (suc (64 * w + b))) (q (suc (64 * w + b))) (2 ^ b) (none (64 * w + b) (omega arith))))
 
 -- ---- two sheets
 

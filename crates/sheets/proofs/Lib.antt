@@ -16,3 +16,4 @@ pub mod Figuring
 pub mod Answering
 pub mod Entering
 pub mod Unique
+pub mod Running

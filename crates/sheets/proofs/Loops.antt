@@ -1,5 +1,5 @@
 -- What the loops know: a total taken down word by word, deals counted, a test that held so far.
-use mathlib.Core.Path.{_≡_, refl, sym, ap, _∙_, subst}
+use mathlib.Core.Path.{_≡_, sym, ap, _∙_, subst}
 use mathlib.Core.Bool.{Bool, true, false, cond}
 use mathlib.Core.List.{List}
 use Prim.Native.Nat.{ℕ, zero, suc, _+_, _-_, _<_, _≤_}
@@ -9,7 +9,7 @@ use borrow.Author.Tests.{eq-eqb, ne-eqb, eqb-true}
 use lib.Dec.{eqb}
 use Rattle.base.specs.Words.{every, sum}
 use Rattle.base.proofs.Words.{every-none, every-more, every-fails, every-end, same-test}
-use Rattle.base.proofs.Sums.{sum-none, sum-next, sum-ones}
+use Rattle.base.proofs.Sums.{sum-none, sum-next}
 use Rattle.sheets.specs.Over.{over}
 use Rattle.sheets.specs.Good.{covered, deals}
 

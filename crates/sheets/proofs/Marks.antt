@@ -1,19 +1,18 @@
 -- The shortest and the longest won list, as least keys.
 use mathlib.Core.Path.{_≡_, refl, sym, ap, ap₂, _∙_, subst}
 use mathlib.Core.Bool.{Bool, true, false, cond, _&&_, _||_}
-use mathlib.Core.List.{List}
 use mathlib.Core.Logic.{_⊎_, inl, inr}
-use Prim.Native.Nat.{ℕ, zero, suc, min, _+_, _*_, _-_, _/_, _%_, _<_, _≤_}
+use Prim.Native.Nat.{ℕ, zero, suc, min, _/_, _%_, _<_, _≤_}
 use native.Mathlib.Nat.{not-suc-le-zero}
 use native.Mathlib.Omega.{arith}
 use native.Mathlib.Decide.{ℕ-discrete, decLt, decLe}
 use borrow.Author.Count.{below-more}
-use borrow.Author.Tests.{eq-eqb, ne-eqb, lt-ltb, le-ltb}
-use lib.Dec.{eqb, ltb}
-use Rattle.base.proofs.Words.{first, second, both}
+use borrow.Author.Tests.{ne-eqb, lt-ltb}
+use lib.Dec.{eqb}
+use Rattle.base.proofs.Words.{both}
 use Rattle.sheets.specs.declared.Side.{Side}
 use Rattle.sheets.specs.declared.Side.the-variants.{Shortest as shortest, Longest as longest}
-use Rattle.sheets.specs.Figures.{markList, markDeal, told}
+use Rattle.sheets.specs.Figures.{markList, markDeal}
 use Rattle.sheets.specs.Over.{Settings, Result, won, behind, keyOf, noKey, least, bestKey, keyList, keyDeal, figureOver, sheetOver}
 use Rattle.sheets.specs.Adding.{keyIn}
 use Rattle.sheets.proofs.Reading.{words-tell}

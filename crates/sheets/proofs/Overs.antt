@@ -1,11 +1,10 @@
 -- Laws of sums over deals.
-use mathlib.Core.Path.{_≡_, refl, sym, ap, _∙_}
+use mathlib.Core.Path.{_≡_, refl, _∙_}
 use mathlib.Core.Bool.{Bool, true, false, cond, _&&_, _||_}
 use Prim.Native.Nat.{ℕ, zero, suc, _+_, _*_, _<_, _≤_}
 use native.Mathlib.Nat.{not-suc-le-zero}
 use native.Mathlib.Omega.{arith}
 use native.Mathlib.Decide.{ℕ-discrete}
-use borrow.Author.Count.{below-more}
 use borrow.Author.Tests.{eq-eqb, ne-eqb}
 use lib.Dec.{eqb}
 use Rattle.base.specs.Words.{sum}
@@ -15,7 +14,7 @@ use Rattle.sheets.specs.Over.{over}
 
 -- ---- one test
 
-both-parts : (a b : Bool) (x : ℕ) → (a && b) ≡ false → cond (a || b) x 0 ≡ cond a x 0 + cond b x 0
+pub both-parts : (a b : Bool) (x : ℕ) → (a && b) ≡ false → cond (a || b) x 0 ≡ cond a x 0 + cond b x 0
 both-parts true true x e = true-or-not true refl e
 both-parts true false x e = omega arith
 both-parts false b x e = omega arith

@@ -1,7 +1,7 @@
 -- Where the figures of a sheet stand: a sheet is told by its figures, and says them again.
 use mathlib.Core.Path.{_≡_, refl, sym, ap, _∙_, subst}
 use mathlib.Core.List.{List, [], _∷_, _++_}
-use Prim.Native.Nat.{ℕ, zero, suc, _+_, _-_, _<_, _≤_}
+use Prim.Native.Nat.{ℕ, zero, suc, _+_, _-_, _<_}
 use native.Mathlib.Omega.{arith}
 use native.Mathlib.Decide.{decLt}
 use lib.ListN.{length, getD, length-append, List·getD-append}
@@ -9,7 +9,7 @@ use lib.Seq.{getD-append-add, ext-getD}
 use Rattle.base.specs.Words.{listed}
 use Rattle.base.proofs.Words.{length-listed, getD-listed}
 use Rattle.sheets.specs.declared.Side.the-variants.{Shortest as shortest, Longest as longest}
-use Rattle.sheets.specs.Figures.{Figure, theBudget, theCapacity, theFlag, answers, allPops, markList, markDeal, lists, covers, sheetRoom, placeOf, told, wordsOf}
+use Rattle.sheets.specs.Figures.{Figure, theBudget, theCapacity, theFlag, answers, allPops, markList, markDeal, lists, covers, placeOf, told, wordsOf}
 
 -- the figure has a place
 abbrev pub Stands : Figure → Type 0

@@ -1,28 +1,22 @@
--- Adding: a sum that is given is a good sheet; which of two comes first is no matter, nor which two of three.
+-- What a sum of two sheets tells; equal settings, and no number in both, as facts; the key of a good mark.
 use mathlib.Core.Path.{_≡_, refl, sym, ap, ap₂, _∙_, subst}
-use mathlib.Core.Bool.{Bool, true, false, cond, not, _&&_, _||_, and-comm}
+use mathlib.Core.Bool.{Bool, true, false, cond, not, _&&_}
 use mathlib.Core.List.{List}
-use Prim.Native.Nat.{ℕ, zero, suc, min, _+_, _*_, _<_, _≤_}
+use Prim.Native.Nat.{ℕ, suc, min, _<_}
 use native.Mathlib.Omega.{arith}
-use native.Mathlib.Decide.{ℕ-discrete, decLt, decLe}
+use native.Mathlib.Decide.{decLt}
 use borrow.Author.Tests.{eq-eqb, ne-eqb, eqb-true, lt-ltb, le-ltb}
-use lib.Dec.{eqb, ltb, leb}
+use lib.Dec.{eqb, ltb}
 use lib.ListN.{length}
-use Rattle.base.specs.Words.{every, sum}
-use Rattle.base.specs.Answer.{Answer, given, refused, unless}
-use Rattle.base.proofs.Answers.{given-by}
-use Rattle.base.proofs.Words.{first, second, both, every-at, every-by, true-or-not, not-so, same-test}
-use Rattle.base.proofs.Sums.{sum-same, sum-add, sum-part}
+use Rattle.base.proofs.Words.{first, second, both, every-at, every-by, true-or-not}
 use Rattle.sheets.specs.declared.Side.{Side}
-use Rattle.sheets.specs.Figures.{Figure, theBudget, theCapacity, theFlag, answers, allPops, markList, markDeal, lists, covers, told}
-use Rattle.sheets.specs.Over.{over, behind, keyOf, noKey, keyList, keyDeal}
-use Rattle.sheets.specs.Good.{covered, deals, wins, goodMark, goodSheet}
-use Rattle.sheets.specs.Adding.{flagOf, sameSettings, apart, keyIn, better, addedFigure, added, addAsked}
-use Rattle.sheets.proofs.Reading.{Stands, words-tell, words-long, words-same}
-use Rattle.sheets.proofs.Covers.{covered-added}
-use Rattle.sheets.proofs.Overs.{over-same, over-or}
-use Rattle.sheets.proofs.Marks.{behind-most, mark-below, mark-list, mark-deal, no-list, no-deal}
-use Rattle.sheets.proofs.Goodness.{Marked, Unmarked, mark-none, mark-some, none-good, some-good, IsGood, good-is, is-good}
+use Rattle.sheets.specs.Figures.{Figure, theBudget, theCapacity, theFlag, markList, markDeal, told}
+use Rattle.sheets.specs.Over.{keyOf, noKey, keyList, keyDeal}
+use Rattle.sheets.specs.Good.{covered, wins, goodMark}
+use Rattle.sheets.specs.Adding.{flagOf, sameSettings, apart, keyIn, better, addedFigure, added}
+use Rattle.sheets.proofs.Reading.{Stands, words-tell, words-long}
+use Rattle.sheets.proofs.Marks.{mark-below, mark-list, mark-deal, no-list, no-deal}
+use Rattle.sheets.proofs.Goodness.{Marked, Unmarked, mark-none, mark-some}
 
 -- ---- settings
 

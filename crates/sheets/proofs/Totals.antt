@@ -1,25 +1,22 @@
 -- What the functions that add sheets decide and leave, step by step.
 use mathlib.Core.Path.{_≡_, refl, sym, ap, ap₂, _∙_, subst}
-use mathlib.Core.Bool.{Bool, true, false, cond, not, _&&_}
+use mathlib.Core.Bool.{Bool, true, false, not, _&&_}
 use mathlib.Core.List.{List}
-use mathlib.Core.Logic.{_⊎_, inl, inr}
-use Prim.Native.Nat.{ℕ, zero, suc, _+_, _*_, _^_, _<_, _≤_}
+use Prim.Native.Nat.{ℕ, suc, _+_, _*_, _^_, _<_, _≤_}
 use native.Mathlib.Numerals.{add-one}
 use native.Mathlib.Omega.{arith}
 use native.Mathlib.Decide.{ℕ-discrete}
 use borrow.Author.Tests.{eq-eqb, ne-eqb, lt-ltb, le-ltb}
-use lib.Dec.{eqb, ltb}
+use lib.Dec.{eqb}
 use lib.ListN.{length, getD, set, length-set}
 use lib.Seq.{getD-set-same, getD-set-other}
-use Rattle.base.specs.Words.{every}
-use Rattle.base.proofs.Words.{second-fails, first-fails}
 use Rattle.sheets.specs.declared.Side.{Side}
 use Rattle.sheets.specs.declared.Side.the-variants.{Shortest as shortest, Longest as longest}
-use Rattle.sheets.specs.Figures.{theBudget, theCapacity, theFlag, markList, markDeal, told}
-use Rattle.sheets.specs.Over.{behind, noKey}
+use Rattle.sheets.specs.Figures.{markList, markDeal, told}
+use Rattle.sheets.specs.Over.{behind}
 use Rattle.sheets.specs.Good.{covered}
-use Rattle.sheets.specs.Adding.{flagOf, sameSettings, apart, keyIn, better}
-use Rattle.sheets.specs.Promises.{Roomy, Summed, Small, markSet, markChosen}
+use Rattle.sheets.specs.Adding.{flagOf, sameSettings, apart, keyIn}
+use Rattle.sheets.specs.Promises.{Roomy, Summed, markSet, markChosen}
 use Rattle.sheets.proofs.Marks.{behind-most}
 use Rattle.sheets.proofs.Loops.{Held, held-more, held-fails, held-end}
 

@@ -1,6 +1,5 @@
 -- What `adds_up` leaves to be shown: what is left of the total after the first words.
 use Prim.Native.Nat.{_+_, _-_}
-use native.Mathlib.Omega.{arith}
 use lib.ListN.{getD}
 use Rattle.sheets.proofs.Loops.{Taken, taken-none, taken-more, taken-over, taken-end}
 use borrow.Author.Needs.{needs}

@@ -1,7 +1,6 @@
 -- What `count_deals` leaves to be shown: the deals before i are counted.
 use mathlib.Core.Path.{sym, _∙_}
-use Prim.Native.Nat.{_+_, _-_}
-use native.Mathlib.Omega.{arith}
+use Prim.Native.Nat.{_-_}
 use Rattle.sheets.proofs.Loops.{Counted, counted-none, counted-one, counted-not, counted-end}
 use borrow.Author.Needs.{needs}
 use Rattle.sheets.proofs.exam.count_deals.Statement.{statement}

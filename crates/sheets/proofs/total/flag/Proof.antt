@@ -1,6 +1,5 @@
 -- What `flag` leaves to be shown: 0 or not.
 use Rattle.sheets.proofs.Totals.{flag-no, flag-yes}
-use borrow.Author.Needs.{needs}
 use Rattle.sheets.proofs.total.flag.Statement.{statement}
 use Rattle.sheets.proofs.total.flag.Tie as tie
 
