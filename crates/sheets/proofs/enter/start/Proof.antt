@@ -15,19 +15,19 @@ flag-word-requires : tie.Need-flag-word-requires
 flag-word-requires c κs = search needs
 
 slice-write-sheet : tie.Need-slice-write-sheet
-slice-write-sheet c = omega (arith, c .before .before .before .clear-longs .kept .0, c .before .before .before .before .before .before .pre)
+slice-write-sheet c = let p3 = c .before .before .before in let p6 = p3 .before .before .before in omega (arith, p3 .clear-longs .kept .0, p6 .pre)
 
 slice-write-sheet-2 : tie.Need-slice-write-sheet-2
-slice-write-sheet-2 c = subst (λ (x : ℕ). 1 < x) (sym (length-set (c .before .before .before .clear-longs .last .0) 0 (c .before .before .before .before .before .before .args .budget))) (omega (arith, c .before .before .before .clear-longs .kept .0, c .before .before .before .before .before .before .pre))
+slice-write-sheet-2 c = let p3 = c .before .before .before in let p6 = p3 .before .before .before in subst (λ (x : ℕ). 1 < x) (sym (length-set (p3 .clear-longs .last .0) 0 (p6 .args .budget))) (omega (arith, p3 .clear-longs .kept .0, p6 .pre))
 
 slice-write-sheet-3 : tie.Need-slice-write-sheet-3
-slice-write-sheet-3 c = subst (λ (x : ℕ). 2 < x) (sym (length-set (set (c .before .before .before .clear-longs .last .0) 0 (c .before .before .before .before .before .before .args .budget)) 1 (c .before .before .before .before .before .before .args .capacity) ∙ length-set (c .before .before .before .clear-longs .last .0) 0 (c .before .before .before .before .before .before .args .budget))) (omega (arith, c .before .before .before .clear-longs .kept .0, c .before .before .before .before .before .before .pre))
+slice-write-sheet-3 c = let p3 = c .before .before .before in let p6 = p3 .before .before .before in subst (λ (x : ℕ). 2 < x) (sym (length-set (set (p3 .clear-longs .last .0) 0 (p6 .args .budget)) 1 (p6 .args .capacity) ∙ length-set (p3 .clear-longs .last .0) 0 (p6 .args .budget))) (omega (arith, p3 .clear-longs .kept .0, p6 .pre))
 
 same-length : tie.Need-same-length
-same-length c = length-set (set (set (c .before .before .before .clear-longs .last .0) 0 (c .before .before .before .before .before .before .args .budget)) 1 (c .before .before .before .before .before .before .args .capacity)) 2 (c .flag-word .result) ∙ length-set (set (c .before .before .before .clear-longs .last .0) 0 (c .before .before .before .before .before .before .args .budget)) 1 (c .before .before .before .before .before .before .args .capacity) ∙ length-set (c .before .before .before .clear-longs .last .0) 0 (c .before .before .before .before .before .before .args .budget) ∙ c .before .before .before .clear-longs .kept .0
+same-length c = let p3 = c .before .before .before in let p6 = p3 .before .before .before in length-set (set (set (p3 .clear-longs .last .0) 0 (p6 .args .budget)) 1 (p6 .args .capacity)) 2 (c .flag-word .result) ∙ length-set (set (p3 .clear-longs .last .0) 0 (p6 .args .budget)) 1 (p6 .args .capacity) ∙ length-set (p3 .clear-longs .last .0) 0 (p6 .args .budget) ∙ p3 .clear-longs .kept .0
 
 returns : tie.Need-returns
-returns c = started (record { budget = c .before .before .before .before .before .before .args .budget; capacity = c .before .before .before .before .before .before .args .capacity; partial = c .before .before .before .before .before .before .args .partial }) _ _ _ (c .before .before .before .before .before .before .pre) (c .before .before .before .clear-longs .ensures) (c .flag-word .ensures)
+returns c = let p3 = c .before .before .before in let p6 = p3 .before .before .before in started (record { budget = p6 .args .budget; capacity = p6 .args .capacity; partial = p6 .args .partial }) _ _ _ (p6 .pre) (p3 .clear-longs .ensures) (c .flag-word .ensures)
 
 pub start-spec : {M : Type 1} → statement M
 start-spec =

@@ -25,7 +25,7 @@ shared-slice-read-word : tie.Need-shared-slice-read-word Inv-loop μ-loop
 shared-slice-read-word c = search needs
 
 returns : tie.Need-returns Inv-loop μ-loop
-returns c = taken-over (c .before .before .before .loop .inv) (c .before .before .loop-test .taken) (c .if1 .taken)
+returns c = let p2 = c .before .before in let p3 = p2 .before in taken-over (p3 .loop .inv) (p2 .loop-test .taken) (c .if1 .taken)
 
 add-i : tie.Need-add-i Inv-loop μ-loop
 add-i c = search needs
@@ -34,7 +34,7 @@ loop-less : tie.Need-loop-less Inv-loop μ-loop
 loop-less c = search needs
 
 loop-again : tie.Need-loop-again Inv-loop μ-loop
-loop-again c = taken-more (c .before .before .before .loop .inv) (c .before .before .loop-test .taken) (c .if1 .left)
+loop-again c = let p2 = c .before .before in let p3 = p2 .before in taken-more (p3 .loop .inv) (p2 .loop-test .taken) (c .if1 .left)
 
 returns-2 : tie.Need-returns-2 Inv-loop μ-loop
 returns-2 c = taken-end (c .before .loop .inv) (c .loop-test .left)

@@ -20,13 +20,13 @@ shared-slice-read-if2 : tie.Need-shared-slice-read-if2
 shared-slice-read-if2 c = search needs
 
 returns-2 : tie.Need-returns-2
-returns-2 c = best-none _ _ _ (c .before .before .before .list-of .ensures) (c .before .before .if1 .left) (c .if2 .taken)
+returns-2 c = let p2 = c .before .before in let p3 = p2 .before in best-none _ _ _ (p3 .list-of .ensures) (p2 .if1 .left) (c .if2 .taken)
 
 none-better-requires : tie.Need-none-better-requires
 none-better-requires c κs = search needs
 
 returns-3 : tie.Need-returns-3
-returns-3 c = best-some _ _ _ (c .before .before .before .before .list-of .ensures) _ (c .before .before .before .if1 .left) (c .before .if2 .left) (c .none-better .ensures)
+returns-3 c = let p3 = c .before .before .before in let p4 = p3 .before in best-some _ _ _ (p4 .list-of .ensures) _ (p3 .if1 .left) (c .before .if2 .left) (c .none-better .ensures)
 
 pub best-spec : {M : Type 1} → statement M
 best-spec =

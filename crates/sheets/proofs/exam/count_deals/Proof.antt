@@ -28,13 +28,13 @@ loop-less : tie.Need-loop-less Inv-loop μ-loop
 loop-less c = search needs
 
 loop-again : tie.Need-loop-again Inv-loop μ-loop
-loop-again c = counted-one (c .before .before .before .loop .inv) (c .before .before .loop-test .taken) (sym (c .before .covered-at .ensures) ∙ c .if1 .taken)
+loop-again c = let p2 = c .before .before in let p3 = p2 .before in counted-one (p3 .loop .inv) (p2 .loop-test .taken) (sym (c .before .covered-at .ensures) ∙ c .if1 .taken)
 
 loop-less-2 : tie.Need-loop-less-2 Inv-loop μ-loop
 loop-less-2 c = search needs
 
 loop-again-2 : tie.Need-loop-again-2 Inv-loop μ-loop
-loop-again-2 c = counted-not (c .before .before .before .loop .inv) (c .before .before .loop-test .taken) (sym (c .before .covered-at .ensures) ∙ c .if1 .left)
+loop-again-2 c = let p2 = c .before .before in let p3 = p2 .before in counted-not (p3 .loop .inv) (p2 .loop-test .taken) (sym (c .before .covered-at .ensures) ∙ c .if1 .left)
 
 returns : tie.Need-returns Inv-loop μ-loop
 returns c = counted-end (c .before .loop .inv) (c .loop-test .left)

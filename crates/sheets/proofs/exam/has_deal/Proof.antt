@@ -17,7 +17,7 @@ covered-at-requires : tie.Need-covered-at-requires
 covered-at-requires c κs = search needs
 
 returns-3 : tie.Need-returns-3
-returns-3 c = deal-has _ _ _ (c .before .before .before .deal-of .ensures) _ (c .before .before .if1 .left) (c .before .if2 .left) (c .covered-at .ensures)
+returns-3 c = let p2 = c .before .before in let p3 = p2 .before in deal-has _ _ _ (p3 .deal-of .ensures) _ (p2 .if1 .left) (c .before .if2 .left) (c .covered-at .ensures)
 
 pub has-deal-spec : {M : Type 1} → statement M
 has-deal-spec =

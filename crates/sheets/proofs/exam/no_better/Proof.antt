@@ -14,7 +14,7 @@ shared-slice-read-if1 : tie.Need-shared-slice-read-if1
 shared-slice-read-if1 c = search needs
 
 returns : tie.Need-returns
-returns c = better-none (c .before .before .before .args .sheet .now) (c .before .before .before .args .side) (c .before .before .before .args .list) (c .before .before .before .args .m) (c .if1 .taken)
+returns c = let p3 = c .before .before .before in better-none (p3 .args .sheet .now) (p3 .args .side) (p3 .args .list) (p3 .args .m) (c .if1 .taken)
 
 behind-best-requires : tie.Need-behind-best-requires
 behind-best-requires c κs = search needs
@@ -23,7 +23,7 @@ behind-best-requires-2 : tie.Need-behind-best-requires-2
 behind-best-requires-2 c κs = search needs
 
 returns-2 : tie.Need-returns-2
-returns-2 c = better-some (c .before .before .before .before .before .args .sheet .now) (c .before .before .before .before .before .args .side) (c .before .before .before .before .before .args .list) (c .before .before .before .before .before .args .m) _ _ (c .before .before .if1 .left) (c .behind-best2 .ensures) (c .before .behind-best .ensures)
+returns-2 c = let p2 = c .before .before in let p5 = p2 .before .before .before in better-some (p5 .args .sheet .now) (p5 .args .side) (p5 .args .list) (p5 .args .m) _ _ (p2 .if1 .left) (c .behind-best2 .ensures) (c .before .behind-best .ensures)
 
 pub no-better-spec : {M : Type 1} → statement M
 no-better-spec =

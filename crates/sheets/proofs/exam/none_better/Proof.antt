@@ -29,7 +29,7 @@ no-better-requires : tie.Need-no-better-requires Inv-loop μ-loop
 no-better-requires c κs = search needs
 
 returns : tie.Need-returns Inv-loop μ-loop
-returns c = held-fails (c .before .before .before .loop .inv) (c .before .before .loop-test .taken) (sym (c .before .no-better .ensures) ∙ not-true _ (c .if1 .taken))
+returns c = let p2 = c .before .before in let p3 = p2 .before in held-fails (p3 .loop .inv) (p2 .loop-test .taken) (sym (c .before .no-better .ensures) ∙ not-true _ (c .if1 .taken))
 
 add-m : tie.Need-add-m Inv-loop μ-loop
 add-m c = search needs
@@ -38,7 +38,7 @@ loop-less : tie.Need-loop-less Inv-loop μ-loop
 loop-less c = search needs
 
 loop-again : tie.Need-loop-again Inv-loop μ-loop
-loop-again c = held-more (c .before .before .before .loop .inv) (c .before .before .loop-test .taken) (sym (c .before .no-better .ensures) ∙ not-false _ (c .if1 .left))
+loop-again c = let p2 = c .before .before in let p3 = p2 .before in held-more (p3 .loop .inv) (p2 .loop-test .taken) (sym (c .before .no-better .ensures) ∙ not-false _ (c .if1 .left))
 
 returns-2 : tie.Need-returns-2 Inv-loop μ-loop
 returns-2 c = held-end (c .before .loop .inv) (c .loop-test .left)

@@ -24,7 +24,7 @@ has-deal-requires : tie.Need-has-deal-requires
 has-deal-requires c κs = search needs
 
 returns-3 : tie.Need-returns-3
-returns-3 c = right-by _ _ _ _ (c .before .before .before .if1 .left) (c .before .before .best .ensures) (not-false _ (c .before .if2 .left)) (c .has-deal .ensures)
+returns-3 c = let p2 = c .before .before in let p3 = p2 .before in right-by _ _ _ _ (p3 .if1 .left) (p2 .best .ensures) (not-false _ (c .before .if2 .left)) (c .has-deal .ensures)
 
 pub right-spec : {M : Type 1} → statement M
 right-spec =

@@ -16,16 +16,16 @@ list-of-requires : tie.Need-list-of-requires
 list-of-requires c κs = search needs
 
 behind-best-requires : tie.Need-behind-best-requires
-behind-best-requires c κs = omega (arith, c .list-of .ensures, c .before .before .before .before .pre .list)
+behind-best-requires c κs = let p4 = c .before .before .before .before in omega (arith, c .list-of .ensures, p4 .pre .list)
 
 mul-high : tie.Need-mul-high
-mul-high c = let k = back-most (c .before .before .before .before .before .args .side) (c .before .before .before .before .before .args .sheet .now) (c .before .list-of .result) (c .behind-best .result) (let h = c .before .before .before .before .before .pre .list in let q = c .before .list-of .ensures in let z : c .before .list-of .result ≤ 200 = omega (arith, h, q) in z) (c .behind-best .ensures) in record { fits = omega (arith, k) }
+mul-high c = let p5 = c .before .before .before .before .before in let k = back-most (p5 .args .side) (p5 .args .sheet .now) (c .before .list-of .result) (c .behind-best .result) (let h = p5 .pre .list in let q = c .before .list-of .ensures in let z : c .before .list-of .result ≤ 200 = omega (arith, h, q) in z) (c .behind-best .ensures) in record { fits = omega (arith, k) }
 
 add-result : tie.Need-add-result
-add-result c = let k = back-most (c .before .before .before .before .before .args .side) (c .before .before .before .before .before .args .sheet .now) (c .before .list-of .result) (c .behind-best .result) (let h = c .before .before .before .before .before .pre .list in let q = c .before .list-of .ensures in let z : c .before .list-of .result ≤ 200 = omega (arith, h, q) in z) (c .behind-best .ensures) in let d = c .before .before .before .before .before .pre .deal in let e = c .before .before .before .deal-of .ensures in record { fits = omega (arith, k, d, e) }
+add-result c = let p3 = c .before .before .before in let p5 = p3 .before .before in let k = back-most (p5 .args .side) (p5 .args .sheet .now) (c .before .list-of .result) (c .behind-best .result) (let h = p5 .pre .list in let q = c .before .list-of .ensures in let z : c .before .list-of .result ≤ 200 = omega (arith, h, q) in z) (c .behind-best .ensures) in let d = p5 .pre .deal in let e = p3 .deal-of .ensures in record { fits = omega (arith, k, d, e) }
 
 returns-2 : tie.Need-returns-2
-returns-2 c = key-here _ _ _ _ _ (c .before .before .before .deal-of .ensures) (c .before .before .if1 .left) (c .before .list-of .ensures) (c .behind-best .ensures)
+returns-2 c = let p2 = c .before .before in let p3 = p2 .before in key-here _ _ _ _ _ (p3 .deal-of .ensures) (p2 .if1 .left) (c .before .list-of .ensures) (c .behind-best .ensures)
 
 pub key-of-spec : {M : Type 1} → statement M
 key-of-spec =

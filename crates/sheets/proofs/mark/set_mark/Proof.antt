@@ -26,13 +26,13 @@ same-length : tie.Need-same-length
 same-length c = search needs
 
 returns : tie.Need-returns
-returns c = set-short (c .before .before .args .side) (c .before .before .args .sheet .now) (c .before .before .args .list) (c .before .before .args .deal) (c .enum-told .given .1)
+returns c = let p2 = c .before .before in set-short (p2 .args .side) (p2 .args .sheet .now) (p2 .args .list) (p2 .args .deal) (c .enum-told .given .1)
 
 same-length-2 : tie.Need-same-length-2
 same-length-2 c = search needs
 
 returns-2 : tie.Need-returns-2
-returns-2 c = set-long (c .before .before .args .side) (c .before .before .args .sheet .now) (c .before .before .args .list) (c .before .before .args .deal) (c .enum-told2 .given .1)
+returns-2 c = let p2 = c .before .before in set-long (p2 .args .side) (p2 .args .sheet .now) (p2 .args .list) (p2 .args .deal) (c .enum-told2 .given .1)
 
 pub set-mark-spec : {M : Type 1} → statement M
 set-mark-spec =

@@ -24,13 +24,13 @@ same-length : tie.Need-same-length
 same-length c = c .before .before .set-mark .kept .0
 
 returns : tie.Need-returns
-returns c = chosen-other (c .before .before .before .before .before .before .before .before .before .before .before .before .args .side) (c .before .before .before .before .before .before .before .before .before .before .before .before .args .into .now) (c .before .before .before .before .before .before .before .before .before .before .before .before .args .other .now) _ _ (c .before .before .before .before .before .before .before .before .key-of .ensures) (c .before .before .before .before .before .before .before .key-of2 .ensures) _ _ _ (c .before .before .before .before .before .before .if1 .taken) (c .before .before .before .before .before .list-of .ensures) (c .before .before .before .before .deal-of .ensures) (c .before .before .set-mark .ensures)
+returns c = let p2 = c .before .before in let p4 = p2 .before .before in let p5 = p4 .before in let p6 = p5 .before in let p7 = p6 .before in let p8 = p7 .before in let p12 = p8 .before .before .before .before in chosen-other (p12 .args .side) (p12 .args .into .now) (p12 .args .other .now) _ _ (p8 .key-of .ensures) (p7 .key-of2 .ensures) _ _ _ (p6 .if1 .taken) (p5 .list-of .ensures) (p4 .deal-of .ensures) (p2 .set-mark .ensures)
 
 same-length-2 : tie.Need-same-length-2
 same-length-2 c = refl
 
 returns-2 : tie.Need-returns-2
-returns-2 c = chosen-own (c .before .before .before .before .before .before .args .side) (c .before .before .before .before .before .before .args .into .now) (c .before .before .before .before .before .before .args .other .now) _ _ (c .before .before .key-of .ensures) (c .before .key-of2 .ensures) (c .if1 .left)
+returns-2 c = let p2 = c .before .before in let p6 = p2 .before .before .before .before in chosen-own (p6 .args .side) (p6 .args .into .now) (p6 .args .other .now) _ _ (p2 .key-of .ensures) (c .before .key-of2 .ensures) (c .if1 .left)
 
 pub add-mark-spec : {M : Type 1} → statement M
 add-mark-spec =

@@ -17,25 +17,25 @@ loop-holds : tie.Need-loop-holds Inv-loop μ-loop
 loop-holds c = going-start (c .pre)
 
 mul-mine : tie.Need-mul-mine Inv-loop μ-loop
-mul-mine c = let m = c .before .before .pre .mine in record { fits = omega (arith, m, c .before .before .good .0 .1, c .loop-test .taken) }
+mul-mine c = let p2 = c .before .before in let m = p2 .pre .mine in record { fits = omega (arith, m, p2 .good .0 .1, c .loop-test .taken) }
 
 slice-read-mine : tie.Need-slice-read-mine Inv-loop μ-loop
-slice-read-mine c = going-in (c .before .before .before .pre) (c .before .before .loop .inv) (c .before .loop-test .taken)
+slice-read-mine c = let p2 = c .before .before in let p3 = p2 .before in going-in (p3 .pre) (p2 .loop .inv) (c .before .loop-test .taken)
 
 mul-yours : tie.Need-mul-yours Inv-loop μ-loop
-mul-yours c = let m = c .before .before .before .pre .mine in record { fits = omega (arith, m, c .before .before .before .good .0 .1, c .before .loop-test .taken) }
+mul-yours c = let p3 = c .before .before .before in let m = p3 .pre .mine in record { fits = omega (arith, m, p3 .good .0 .1, c .before .loop-test .taken) }
 
 shared-slice-read-yours : tie.Need-shared-slice-read-yours Inv-loop μ-loop
-shared-slice-read-yours c = omega (arith, c .before .before .before .before .pre .yours, c .before .before .loop-test .taken)
+shared-slice-read-yours c = let p2 = c .before .before in let p4 = p2 .before .before in omega (arith, p4 .pre .yours, p2 .loop-test .taken)
 
 add-both : tie.Need-add-both Inv-loop μ-loop
-add-both c = record { fits = going-fits (c .before .before .before .before .pre) (c .before .before .before .loop .inv) (c .before .before .loop-test .taken) }
+add-both c = let p2 = c .before .before in let p3 = p2 .before in let p4 = p3 .before in record { fits = going-fits (p4 .pre) (p3 .loop .inv) (p2 .loop-test .taken) }
 
 mul-into : tie.Need-mul-into Inv-loop μ-loop
-mul-into c = let m = c .before .before .before .before .pre .mine in record { fits = omega (arith, m, c .before .before .before .before .good .0 .1, c .before .before .loop-test .taken) }
+mul-into c = let p2 = c .before .before in let p4 = p2 .before .before in let m = p4 .pre .mine in record { fits = omega (arith, m, p4 .good .0 .1, p2 .loop-test .taken) }
 
 slice-write-into : tie.Need-slice-write-into Inv-loop μ-loop
-slice-write-into c = going-in (c .before .before .before .before .pre) (c .before .before .before .loop .inv) (c .before .before .loop-test .taken)
+slice-write-into c = let p2 = c .before .before in let p3 = p2 .before in let p4 = p3 .before in going-in (p4 .pre) (p3 .loop .inv) (p2 .loop-test .taken)
 
 add-i : tie.Need-add-i Inv-loop μ-loop
 add-i c = search needs
@@ -44,7 +44,7 @@ loop-less : tie.Need-loop-less Inv-loop μ-loop
 loop-less c = search needs
 
 loop-again : tie.Need-loop-again Inv-loop μ-loop
-loop-again c = going-turn (c .before .before .before .before .pre) (c .before .before .before .loop .inv) (c .before .before .loop-test .taken)
+loop-again c = let p2 = c .before .before in let p3 = p2 .before in let p4 = p3 .before in going-turn (p4 .pre) (p3 .loop .inv) (p2 .loop-test .taken)
 
 same-length : tie.Need-same-length Inv-loop μ-loop
 same-length c = c .before .loop .inv .upto .long

@@ -22,16 +22,16 @@ in-both-requires : tie.Need-in-both-requires Inv-loop μ-loop
 in-both-requires c κs = search needs
 
 returns : tie.Need-returns Inv-loop μ-loop
-returns c = common-one (c .before .before .before .before .before .before .args .a .now) (c .before .before .before .before .before .before .args .b .now) (c .before .before .before .loop .inv) (c .before .before .loop-test .taken) _ (c .before .in-both .ensures) (c .if1 .taken)
+returns c = let p2 = c .before .before in let p3 = p2 .before in let p6 = p3 .before .before .before in common-one (p6 .args .a .now) (p6 .args .b .now) (p3 .loop .inv) (p2 .loop-test .taken) _ (c .before .in-both .ensures) (c .if1 .taken)
 
 loop-less : tie.Need-loop-less Inv-loop μ-loop
 loop-less c = search needs
 
 loop-again : tie.Need-loop-again Inv-loop μ-loop
-loop-again c = common-none (c .before .before .before .before .before .before .args .a .now) (c .before .before .before .before .before .before .args .b .now) (c .before .before .before .loop .inv) (c .before .before .loop-test .taken) _ (c .before .in-both .ensures) (c .if1 .left)
+loop-again c = let p2 = c .before .before in let p3 = p2 .before in let p6 = p3 .before .before .before in common-none (p6 .args .a .now) (p6 .args .b .now) (p3 .loop .inv) (p2 .loop-test .taken) _ (c .before .in-both .ensures) (c .if1 .left)
 
 returns-2 : tie.Need-returns-2 Inv-loop μ-loop
-returns-2 c = common-end (c .before .before .before .before .args .a .now) (c .before .before .before .before .args .b .now) (c .before .loop .inv) (c .loop-test .left)
+returns-2 c = let p4 = c .before .before .before .before in common-end (p4 .args .a .now) (p4 .args .b .now) (c .before .loop .inv) (c .loop-test .left)
 
 pub none-common-spec : {M : Type 1} → statement M
 none-common-spec =

@@ -35,7 +35,7 @@ flag-requires-2 : tie.Need-flag-requires-2
 flag-requires-2 c κs = search needs
 
 returns-3 : tie.Need-returns-3
-returns-3 c = settings-flag (c .before .before .before .before .before .before .before .before .before .before .before .before .args .a .now) (c .before .before .before .before .before .before .before .before .before .before .before .before .args .b .now) (c .before .before .before .before .before .before .before .if1 .left) (c .before .before .before .before .if2 .left) _ _ (c .before .before .flag .ensures) (c .flag2 .ensures)
+returns-3 c = let p2 = c .before .before in let p4 = p2 .before .before in let p7 = p4 .before .before .before in let p12 = p7 .before .before .before .before .before in settings-flag (p12 .args .a .now) (p12 .args .b .now) (p7 .if1 .left) (p4 .if2 .left) _ _ (p2 .flag .ensures) (c .flag2 .ensures)
 
 pub settings-equal-spec : {M : Type 1} → statement M
 settings-equal-spec =
