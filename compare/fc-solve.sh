@@ -1,7 +1,7 @@
 #!/bin/sh
-# Reads other players' solutions: compare/fc-solve.sh SOURCES [NAME=NUMBER..], SOURCES as in compare/run.sh. Each hand of 1 to 150 is solved by
-# fc-solve (Debian's package freecell-solver-bin); its text, in our words (compare/src/players.rs), is read, replayed to a won
-# board and written back. players=300 goes on to hand 300.
+# Solutions of another program: compare/fc-solve.sh SOURCES [NAME=NUMBER..], with words as in compare/run.sh. Hands 1 to 150 (players=300 goes
+# on to 300) are solved by fc-solve, of Debian's package freecell-solver-bin; each text, its counts as we write them
+# (compare/src/players.rs), is read, replayed to a won board and written back.
 set -eu
 for program in make-microsoft-freecell-board fc-solve; do
     if ! command -v "$program" > /dev/null; then

@@ -107,10 +107,11 @@ const WRONG: [(&str, usize); 36] = [
     ("31 x", 3),
 ];
 
-// Lists on S: 43; the place of the second move; the number of a bad move behind one that cannot be written.
-const LISTS: [(&[u8], Came); 6] = [
+// Lists on S: 43, with the place of the first such move; the number of a bad move behind one that cannot be written.
+const LISTS: [(&[u8], Came); 7] = [
     (&[], Read(&[])),
     (&[6, 3, 1, 1, 195], At(43, 0)),
+    (&[6, 3, 1, 1, 195, 6, 0, 2, 1, 208], At(43, 0)),
     (&[2, 0, 3, 1, 211, 6, 3, 1, 1, 211], At(43, 1)),
     (&[6, 3, 1, 1, 195, 1, 2, 3, 1, 16], At(33, 1)),
     (&[2, 0, 3, 1, 211, 2, 0, 3, 1], Alone(31)),
@@ -201,8 +202,11 @@ pub fn lists() -> Vec<Asked> {
     let s = worked::s();
     let bytes = codes::bytes(&s);
     for (list, came) in LISTS {
-        assert_eq!(papers::write(&bytes, list, TEXT), came.paper(), "{list:?}");
+        assert_eq!(papers::write(&bytes, list, 999), came.paper(), "{list:?}");
     }
+    assert_eq!(papers::write(&bytes, &[], 998), Alone(21).paper());
+    assert_eq!(papers::read(&bytes, &[], 999), Alone(21).paper());
+    assert_eq!(papers::read(&bytes, &[], 1_000), Read(&[]).paper());
     let mut all: Vec<Asked> = LISTS.map(|(list, _)| (s.clone(), list.to_vec())).to_vec();
     let (most, _) = long().remove(0).1.expect("200 moves");
     let text = Ok((to_and_fro(200), 599));
