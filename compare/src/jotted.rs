@@ -1,5 +1,5 @@
-// Texts and lists on boards whose answers were worked out by hand, so that papers.rs itself is held to something; and two lists
-// of the judge, as players would write them.
+// Texts and lists on boards with their answers written out, so that papers.rs itself is held to something; and two lists of the
+// judge, as players would write them.
 use crate::codes::{self, records};
 use crate::original::freecell::board::FreeCellBoard;
 use crate::original::freecell::solver;
@@ -175,7 +175,7 @@ pub fn longest() -> [Vec<u8>; 2] {
     [text, wrong]
 }
 
-// Every text, each with its board. They all are as they were worked out, or this ends here.
+// Every text, each with its board. They all give what is written out, or this ends here.
 pub fn texts() -> Vec<Asked> {
     let (s, m, f) = (worked::s(), worked::m(), f());
     let mut all: Vec<(&FreeCellBoard, Vec<u8>, Paper)> = Vec::new();

@@ -141,29 +141,29 @@ impl Asking<'_> {
         Ok(())
     }
 
-    // What was worked out by hand.
-    fn worked(&mut self) -> Result<(), Difference> {
+    // What has its answer written out.
+    fn written_out(&mut self) -> Result<(), Difference> {
         for (board, text) in jotted::texts() {
             for room in [LIST - 1, LIST, LIST + 1] {
-                self.read("texts worked out", &codes::bytes(&board), &text, room)?;
+                self.read("texts written out", &codes::bytes(&board), &text, room)?;
             }
         }
         for text in jotted::longest() {
             let board = codes::bytes(&worked::s());
-            self.read("texts worked out", &board, &text, LIST)?;
-            self.write("lists worked out", &board, &text, TEXT)?;
+            self.read("texts written out", &board, &text, LIST)?;
+            self.write("lists written out", &board, &text, TEXT)?;
         }
         for (board, list) in jotted::lists() {
             for room in [TEXT - 1, TEXT, TEXT + 1] {
-                self.write("lists worked out", &codes::bytes(&board), &list, room)?;
+                self.write("lists written out", &codes::bytes(&board), &list, room)?;
             }
         }
         Ok(())
     }
 }
 
-// A task: a list, and damaged ones. The first tasks have more: what was worked out by hand, and every byte at every place of a
-// few texts.
+// A task: a list, and damaged ones. The first tasks have more: what has its answer written out, and every byte at every
+// place of a few texts.
 pub fn compare(draws: &mut Draws, task: usize) -> Result<Counts, Difference> {
     let board = board(draws, task);
     let list = list(draws, &board);
@@ -173,7 +173,7 @@ pub fn compare(draws: &mut Draws, task: usize) -> Result<Counts, Difference> {
         counts: Counts::new(),
     };
     if task == 0 {
-        asking.worked()?;
+        asking.written_out()?;
     }
     if let Some((board, text)) = jotted::lines().get(task) {
         asking.every_byte(&codes::bytes(board), text)?;
