@@ -14,10 +14,9 @@ use Rattle.intake.specs.Number.{isNumber}
 use Rattle.solver.proofs.Calls.{gives, answered-accepted}
 use Rattle.sheets.specs.declared.Side.{Side}
 use Rattle.sheets.specs.Figures.{told, markList, markDeal}
-use Rattle.sheets.specs.Over.{Settings, Result, sheetOver, between}
+use Rattle.sheets.specs.Over.{Settings, Result, sheetOver, between, zeroSheet}
 use Rattle.sheets.specs.Good.{covered, wins, goodSheet}
 use Rattle.sheets.specs.Adding.{sameSettings, apart, addAsked}
-use Rattle.sheets.specs.Noted.{zeroSheet}
 use Rattle.sheets.proofs.Goodness.{good-is, mark-none}
 use Rattle.sheets.proofs.Adding.{sum-good, add-comm, add-assoc}
 use Rattle.season.specs.Season.{resultOf, seasonAsked}

@@ -8,10 +8,9 @@ use Rattle.intake.specs.Number.{isNumber}
 use Rattle.solver.specs.Searched.{mostPops}
 use Rattle.sheets.specs.declared.Side.{Side}
 use Rattle.sheets.specs.Figures.{sheetRoom, lastDeal, told, markList, markDeal}
-use Rattle.sheets.specs.Over.{Settings, Result, sheetOver, between}
+use Rattle.sheets.specs.Over.{Settings, Result, sheetOver, between, zeroSheet}
 use Rattle.sheets.specs.Good.{covered, wins, goodSheet}
 use Rattle.sheets.specs.Adding.{sameSettings, apart}
-use Rattle.sheets.specs.Noted.{zeroSheet}
 use Rattle.season.specs.Season.{resultOf}
 use Rattle.corbelnib.specs.Judged.{flag, isAnswer}
 use Rattle.demands.specs.Calls.{number, judge, season, add, Call, capacityIn, settingsBy}

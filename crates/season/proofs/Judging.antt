@@ -10,8 +10,8 @@ use Rattle.memory.specs.Memory.{Memory, lent}
 use Rattle.memory.specs.declared.Room.{Room}
 use Rattle.children.specs.Inner.{SameSize}
 use Rattle.solver.specs.Inner.{Roomy}
-use Rattle.sheets.specs.Over.{Settings, sheetOver, between}
-use Rattle.sheets.specs.Noted.{zeroSheet, noted}
+use Rattle.sheets.specs.Over.{Settings, sheetOver, between, zeroSheet}
+use Rattle.sheets.specs.Noted.{noted}
 use Rattle.sheets.specs.Promises.{Enterable}
 use Rattle.sheets.proofs.Goodness.{good-is}
 use Rattle.sheets.proofs.Running.{run-start, run-good, run-enterable, run-next}

@@ -5,10 +5,9 @@ use mathlib.Core.List.{List}
 use Prim.Native.Nat.{ℕ, suc, _+_, _<_, _≤_}
 use Rattle.base.specs.Answer.{given}
 use Rattle.base.proofs.Unique.{once}
-use Rattle.sheets.specs.Over.{Settings, sheetOver, between}
+use Rattle.sheets.specs.Over.{Settings, sheetOver, between, zeroSheet}
 use Rattle.sheets.specs.Good.{covered, goodSheet}
 use Rattle.sheets.specs.Adding.{addAsked}
-use Rattle.sheets.specs.Noted.{zeroSheet}
 use Rattle.sheets.proofs.Covers.{covered-is}
 use Rattle.sheets.proofs.Entered.{between-joined, between-apart}
 use Rattle.sheets.proofs.Adding.{overs-asked}
