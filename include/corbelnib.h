@@ -2,7 +2,7 @@
  *
  * Link with libcorbelnib.a (README says how it is built). No function allocates, blocks, keeps anything between calls or traps;
  * each ends. Two threads may call at once if they lend different memory. The archive wants memcpy and memset from outside, and
- * nothing else. Stack, measured on aarch64: corbelnib_judge 11 KB, corbelnib_candidates 7 KB, every other function under 3 KB
+ * nothing else. Stack, measured on aarch64: corbelnib_judge and corbelnib_season 13 KB, corbelnib_candidates 7 KB, every other function under 3 KB
  * (docs/MEMORY.md).
  *
  * What is lent: a pointer and then the number of elements behind it. A pointer is never NULL, points to as many elements as
