@@ -15,6 +15,7 @@ static uint32_t nodes[CORBELNIB_NODES(NODES)];
 static uint64_t heap[CORBELNIB_HEAP(NODES)], keys[CORBELNIB_KEYS(NODES)], features[CORBELNIB_FEATURES], hash;
 static int64_t one, other;
 static uint8_t paper[CORBELNIB_TEXT];
+static uint64_t sheet[CORBELNIB_SHEET], sum[CORBELNIB_SHEET];
 static size_t count, pops, moves, steps, hand, signs;
 
 static void examine(void) { corbelnib_examine(board, sizeof board); }
@@ -56,13 +57,44 @@ static void read_line(void) {
     corbelnib_read_line(start, sizeof start, paper, signs, list, sizeof list, &count);
 }
 
+static void season(void) {
+    corbelnib_season(hand, hand, 300, 1, nodes, CORBELNIB_NODES(NODES), heap, CORBELNIB_HEAP(NODES), keys,
+                     CORBELNIB_KEYS(NODES), costs, CORBELNIB_COSTS(NODES), sheet, CORBELNIB_SHEET);
+}
+
+/* The season before it is added to those of the hands before. */
+static void add(void) {
+    if (hand == 1) {
+        memcpy(sum, sheet, sizeof sum);
+    }
+    corbelnib_add(sum, CORBELNIB_SHEET, sheet, CORBELNIB_SHEET);
+}
+
 static const struct {
     const char *name;
     void (*call)(void);
-} CALLS[] = {{"judge", judge},         {"candidates", candidates}, {"priority", priority},   {"replay", replay},
-             {"move", move},           {"number", number},         {"scores", scores},       {"chain", chain},
-             {"features", seven_features}, {"token", token},         {"moves", all_moves},     {"read", read_image},
-             {"signature", signature}, {"examine", examine},       {"deal", deal},           {"capacity", capacity},     {"write_line", write_line}, {"read_line", read_line}};
+} CALLS[] = {
+    {"judge", judge},
+    {"season", season},
+    {"candidates", candidates},
+    {"priority", priority},
+    {"replay", replay},
+    {"move", move},
+    {"number", number},
+    {"scores", scores},
+    {"chain", chain},
+    {"features", seven_features},
+    {"token", token},
+    {"moves", all_moves},
+    {"read", read_image},
+    {"signature", signature},
+    {"examine", examine},
+    {"deal", deal},
+    {"capacity", capacity},
+    {"write_line", write_line},
+    {"read_line", read_line},
+    {"add", add},
+};
 enum { MANY = sizeof CALLS / sizeof CALLS[0] };
 static size_t most[MANY];
 

@@ -2,7 +2,7 @@
  *
  * Link with libcorbelnib.a (README says how it is built). No function allocates, blocks, keeps anything between calls or traps;
  * each ends. Two threads may call at once if they lend different memory. The archive wants memcpy and memset from outside, and
- * nothing else. Stack, measured on aarch64: corbelnib_judge 11 KB, corbelnib_candidates 7 KB, every other function under 3 KB
+ * nothing else. Stack, measured on aarch64: corbelnib_judge and corbelnib_season 13 KB, corbelnib_candidates 7 KB, every other function under 3 KB
  * (docs/MEMORY.md).
  *
  * What is lent: a pointer and then the number of elements behind it. A pointer is never NULL, points to as many elements as
@@ -47,6 +47,9 @@ extern "C" {
 #define CORBELNIB_BUDGET 1000000
 #define CORBELNIB_NUMBER 32000
 
+/* Words of 64 bits that a sheet of figures has. */
+#define CORBELNIB_SHEET 716
+
 /* Elements of each part of the scratch that n nodes need. */
 #define CORBELNIB_NODES(n) (3 * (size_t)(n))
 #define CORBELNIB_HEAP(n) ((size_t)(n))
@@ -87,6 +90,11 @@ enum corbelnib_told {
     CORBELNIB_WRONG_TEXT = 42,    /* "This is no line of moves." */
     CORBELNIB_NOT_WRITABLE = 43,  /* "A card that comes back from home cannot be written." */
 
+    /* Sheets of figures, in the order in which they are looked for. */
+    CORBELNIB_WRONG_SHEET = 47,    /* a sheet whose figures do not go together */
+    CORBELNIB_OTHER_SETTINGS = 45, /* sheets of another budget, capacity or flag */
+    CORBELNIB_COMMON_DEAL = 44,    /* a deal number that both sheets cover */
+
     /* Moves, in the order in which they are looked for. */
     CORBELNIB_OUT_OF_RANGE = 30,  /* "There is no such move.": a record not of five bytes, a kind, place, card or count that no
                                    * record has, or a column to itself; also a kind of move that is none, where one is asked for */
@@ -126,6 +134,21 @@ enum corbelnib_feature {
     CORBELNIB_USED = 4,      /* cells with a card */
     CORBELNIB_EMPTY = 5,     /* empty columns */
     CORBELNIB_LONGEST = 6    /* the longest run */
+};
+
+/* Where a sheet has each figure. Absent marks (no deal is won) are 0 in both words: deal numbers begin at 1. */
+enum corbelnib_figure {
+    CORBELNIB_SHEET_BUDGET = 0,         /* the settings of all its deals: budget, .. */
+    CORBELNIB_SHEET_CAPACITY = 1,       /* .. how many nodes the scratch held, .. */
+    CORBELNIB_SHEET_FLAG = 2,           /* .. and 1 if best-progress lists were allowed, else 0 */
+    CORBELNIB_SHEET_ANSWERS = 3,        /* seven words: how many deals were answered 0, 1, 2, 3, 4, 5 and 23 */
+    CORBELNIB_SHEET_POPS = 10,          /* the pops of all deals together */
+    CORBELNIB_SHEET_SHORTEST = 11,      /* moves of the shortest won list .. */
+    CORBELNIB_SHEET_SHORTEST_DEAL = 12, /* .. and the lowest deal number that has one */
+    CORBELNIB_SHEET_LONGEST = 13,       /* the same of the longest */
+    CORBELNIB_SHEET_LONGEST_DEAL = 14,
+    CORBELNIB_SHEET_LISTS = 15,         /* 201 words: how many deals were won by a list of 0, 1, .. 200 moves */
+    CORBELNIB_SHEET_COVERS = 216        /* 500 words: bit b of word w is 1 if deal 64 * w + b + 1 is on the sheet */
 };
 
 /* Reads an image (a two-byte big-endian count of the bytes that follow; version byte 1; four cells; four foundation counts;
@@ -232,6 +255,24 @@ uint8_t corbelnib_judge(const uint8_t *board, size_t board_length, size_t budget
                         size_t nodes_length, uint64_t *heap, size_t heap_length, uint64_t *keys, size_t keys_length,
                         uint8_t *costs, size_t costs_length, uint8_t *list, size_t list_length, size_t *pops,
                         size_t *moves);
+
+/* Judges the hands of the numbers from `first` to `last`, one after the other, each as corbelnib_judge does with this budget, this
+ * scratch and `partial`, and writes the sheet of their figures, 716 words (`enum corbelnib_figure`), to the start of `sheet`; words
+ * beyond stay. A hand that runs out of nodes is counted with 23, and the sheet goes on. `first` above `last` is the empty run, whose
+ * sheet has its settings and zeros. A sheet leaves every byte of the scratch 0. Two controllers with the same budget, capacity and
+ * flag give the same sheet. Refusals, which change nothing: 41 if `first` or `last` is not 1 to 32,000, 20, 21 if `sheet` has fewer
+ * than 716 words, 22. */
+uint8_t corbelnib_season(size_t first, size_t last, size_t budget, uint8_t partial, uint32_t *nodes, size_t nodes_length,
+                         uint64_t *heap, size_t heap_length, uint64_t *keys, size_t keys_length, uint8_t *costs,
+                         size_t costs_length, uint64_t *sheet, size_t sheet_length);
+
+/* Adds a sheet to `into`, which then is the sheet over the deals of both. Sheets may come from anywhere; each is examined. Refusals,
+ * which change nothing: 47 if either has another length than 716 words, a budget above 1,000,000, answers that do not add up to the
+ * deals that it covers, won lengths that do not add up to its wins, a shortest or longest list that is not that of its lengths or
+ * names a deal that it does not cover, or more pops than budget times deals; then 45 if the settings differ (a flag is 0, or any
+ * other number for yes); then 44 if both cover a deal. `into` and `other` may not be the same memory: to try a sheet on itself, add
+ * a copy. */
+uint8_t corbelnib_add(uint64_t *into, size_t into_length, const uint64_t *other, size_t other_length);
 
 #ifdef __cplusplus
 }

@@ -1,6 +1,7 @@
 // What has to come back from each call, with any input at all, by SCOPE.md and the original: what is handed back, or the
 // number of a refusal.
 use crate::codes::{bytes, records, BOARD};
+use crate::figures::{self, Given};
 use crate::original::freecell::board::{FreeCellBoard, FreeCellMove};
 use crate::original::freecell::solver::{self, Judged};
 use crate::refusals::{self, Asked, FEATURES, RECORDS, TOKEN};
@@ -113,4 +114,46 @@ pub fn judge(board: &[u8], settings: Settings) -> Asked<Judged> {
     let capacity = refusals::search(settings.budget, settings.list, settings.lengths)?;
     let partial = settings.partial != 0;
     Ok(solver::judge(&board, settings.budget, capacity, partial))
+}
+
+// A run of deals judged: its ends, how far and with which flag, with how much scratch and room for the sheet.
+#[derive(Clone, Copy, Debug)]
+pub struct Season {
+    pub ends: (usize, usize),
+    pub budget: usize,
+    pub partial: u8,
+    pub lengths: [usize; 4],
+    pub sheet: usize,
+}
+
+impl Season {
+    // The settings that its sheet tells.
+    pub fn settings(&self) -> figures::Settings {
+        figures::Settings {
+            budget: self.budget as u64,
+            capacity: refusals::capacity(self.lengths) as u64,
+            flag: (self.partial != 0) as u64,
+        }
+    }
+}
+
+// What each deal of a run gave.
+pub fn season(season: &Season) -> Asked<Vec<Given>> {
+    let Season { ends, budget, .. } = *season;
+    let capacity = refusals::season(ends, budget, season.sheet, season.lengths)?;
+    let given = |deal: usize| {
+        let judged = solver::judge(
+            &refusals::number(deal)?,
+            budget,
+            capacity,
+            season.partial != 0,
+        );
+        Ok(Given {
+            deal,
+            answer: judged.number,
+            pops: judged.pops as u64,
+            moves: judged.list.len(),
+        })
+    };
+    (ends.0..=ends.1).map(given).collect()
 }

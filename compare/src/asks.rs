@@ -1,8 +1,9 @@
 // Each question to our library, with any input at all: whether what has to come back does: the number, and everything lent,
 // byte for byte.
-use crate::answers::{self, Settings};
+use crate::answers::{self, Season, Settings};
 use crate::codes::{hex, records};
 use crate::draws::Draws;
+use crate::figures;
 use crate::lent::{self, Room, Rubbish, Scratch};
 use crate::original::freecell::solver::Judged;
 use crate::ours;
@@ -253,6 +254,73 @@ pub fn judged(draws: &mut Draws, board: &[u8], settings: Settings, asked: &Asked
             left("judge, list", &list, &[])?;
             same("judge, scratch stays", scratch.stays(), true)?;
         }
+    }
+    Ok(came)
+}
+
+// A sheet for a reader: the words that are not 0, each with its place.
+pub fn shown(words: &[u64]) -> String {
+    let told = words.iter().enumerate().filter(|(_, &word)| word != 0);
+    let told: Vec<String> = told.map(|(at, word)| format!("{at}:{word}")).collect();
+    format!("{} words, {}", words.len(), told.join(" "))
+}
+
+// The words that differ, each with its place.
+fn same_words(what: &str, ours: &[u64], theirs: &[u64]) -> Same {
+    same(&format!("{what}, its length"), ours.len(), theirs.len())?;
+    let differ = |&(at, _): &(usize, &u64)| ours[at] != theirs[at];
+    let places = |words: &[u64]| {
+        let told = ours.iter().enumerate().filter(differ);
+        told.map(|(at, _)| (at, words[at])).collect::<Vec<_>>()
+    };
+    same(
+        &format!("{what}, places and words"),
+        places(ours),
+        places(theirs),
+    )
+}
+
+// Whether our season comes to what is known already: a sheet or a refusal.
+pub fn season(draws: &mut Draws, season: &Season, asked: &Asked<Vec<u64>>) -> Told {
+    let mut scratch = Scratch::new(draws, season.lengths);
+    let mut sheet = Room::new(draws, season.sheet);
+    let Season {
+        ends,
+        budget,
+        partial,
+        ..
+    } = *season;
+    let came = ours::season(ends, budget, partial, &mut scratch, sheet.lent());
+    same("season", came, number_of(asked))?;
+    match asked {
+        Ok(words) => {
+            same_words("season, sheet", &sheet.held()[..words.len()], words)?;
+            left("season, sheet", &sheet, words)?;
+            same("season, scratch all zero", scratch.is_cleared(), true)?;
+        }
+        Err(_) => {
+            left("season, sheet", &sheet, &[])?;
+            same("season, scratch stays", scratch.stays(), true)?;
+        }
+    }
+    Ok(came)
+}
+
+pub fn add(draws: &mut Draws, into: &[u64], other: &[u64]) -> Told {
+    let (mut sum, added) = (Room::holding(draws, into), Room::holding(draws, other));
+    let came = ours::add(sum.lent(), added.held());
+    let asked = figures::add(into, other);
+    same("add", came, number_of(&asked))?;
+    for (what, room, holds) in [
+        ("add, first sheet", &sum, asked.as_deref().unwrap_or(into)),
+        ("add, second sheet", &added, other),
+    ] {
+        same_words(what, room.held(), holds)?;
+        same(
+            &format!("{what}, places changed around it"),
+            &room.changed_after(room.len())[..],
+            &[],
+        )?;
     }
     Ok(came)
 }

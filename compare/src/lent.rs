@@ -50,6 +50,13 @@ impl<T: Rubbish> Room<T> {
         Room { all, seed }
     }
 
+    // The same, but what is in it is given.
+    pub fn holding(draws: &mut Draws, given: &[T]) -> Room<T> {
+        let mut room = Room::new(draws, given.len());
+        room.lent().copy_from_slice(given);
+        room
+    }
+
     pub fn len(&self) -> usize {
         self.all.len() - 2 * EDGE
     }

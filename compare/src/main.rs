@@ -8,6 +8,7 @@ mod codes;
 mod damage;
 mod deep;
 mod draws;
+mod figures;
 mod gauge;
 mod jotted;
 mod judging;
@@ -28,9 +29,11 @@ mod progress;
 mod records;
 mod refusals;
 mod sample;
+mod seasons;
 mod sheet;
 mod shrink;
 mod slips;
+mod sums;
 mod tasks;
 mod texts;
 mod turned;
@@ -46,8 +49,9 @@ const USAGE: &str = include_str!("../usage.txt");
 
 // What is compared if nothing is selected, each work with the number of its tasks; a task of judge and of long is a board with
 // both flags at each budget. The tasks of deep are the 16 boards of deep-boards.txt, and then climbs. A task of numbers is a
-// hand's number, one of records a board with some forty thousand records, one of papers a list and damaged ones.
-const COMPARED: [(&str, usize); 9] = [
+// hand's number, one of records a board with some forty thousand records, one of papers a list and damaged ones, one of seasons a
+// run of deals, one of sums two sheets.
+const COMPARED: [(&str, usize); 11] = [
     ("boards", 100_000),
     ("records", 200),
     ("judge", 2_000),
@@ -56,6 +60,8 @@ const COMPARED: [(&str, usize); 9] = [
     ("deep", 20),
     ("numbers", 32_000),
     ("papers", 100_000),
+    ("seasons", 700),
+    ("sums", 100_000),
     ("damage", 100_000),
 ];
 // What is compared only if it is selected: with solutions of another program, so many hands of them.

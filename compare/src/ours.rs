@@ -120,6 +120,28 @@ mod c {
             pops: *mut usize,
             moves: *mut usize,
         ) -> u8;
+        pub fn corbelnib_season(
+            first: usize,
+            last: usize,
+            budget: usize,
+            partial: u8,
+            nodes: *mut u32,
+            nodes_len: usize,
+            heap: *mut u64,
+            heap_len: usize,
+            keys: *mut u64,
+            keys_len: usize,
+            costs: *mut u8,
+            costs_len: usize,
+            sheet: *mut u64,
+            sheet_len: usize,
+        ) -> u8;
+        pub fn corbelnib_add(
+            into: *mut u64,
+            into_len: usize,
+            other: *const u64,
+            other_len: usize,
+        ) -> u8;
     }
 }
 
@@ -309,4 +331,37 @@ pub fn judge(
             moves,
         )
     }
+}
+
+pub fn season(
+    (first, last): (usize, usize),
+    budget: usize,
+    partial: u8,
+    scratch: &mut Scratch,
+    sheet: &mut [u64],
+) -> u8 {
+    let (nodes, heap) = (scratch.nodes.lent(), scratch.heap.lent());
+    let (keys, costs) = (scratch.keys.lent(), scratch.costs.lent());
+    unsafe {
+        c::corbelnib_season(
+            first,
+            last,
+            budget,
+            partial,
+            nodes.as_mut_ptr(),
+            nodes.len(),
+            heap.as_mut_ptr(),
+            heap.len(),
+            keys.as_mut_ptr(),
+            keys.len(),
+            costs.as_mut_ptr(),
+            costs.len(),
+            sheet.as_mut_ptr(),
+            sheet.len(),
+        )
+    }
+}
+
+pub fn add(into: &mut [u64], other: &[u64]) -> u8 {
+    unsafe { c::corbelnib_add(into.as_mut_ptr(), into.len(), other.as_ptr(), other.len()) }
 }

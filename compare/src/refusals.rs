@@ -1,6 +1,7 @@
 // The scope's refusals (docs/SCOPE.md), written from the customer's text alone: what may be asked, and else the number that
 // comes first in its order. What is not refused is the original's to answer.
 use crate::codes::{self, BOARD, COLUMN, EMPTY};
+use crate::figures::SHEET;
 use crate::numbers;
 use crate::original::common::card::{Card, Suit};
 use crate::original::freecell::board::{FreeCellBoard, FreeCellMove};
@@ -305,10 +306,30 @@ pub fn capacity(lengths: [usize; 4]) -> usize {
 
 // 20, 21, 22 for a search: the capacity.
 pub fn search(budget: usize, list: usize, lengths: [usize; 4]) -> Asked<usize> {
+    settings(budget, (list, LIST), lengths)
+}
+
+// 41 for either end of a run of deals, then 20, 21, 22: the capacity.
+pub fn season(
+    (first, last): (usize, usize),
+    budget: usize,
+    sheet: usize,
+    lengths: [usize; 4],
+) -> Asked<usize> {
+    if ![first, last]
+        .iter()
+        .all(|end| (1..=MOST_NUMBER).contains(end))
+    {
+        return Err(41);
+    }
+    settings(budget, (sheet, SHEET), lengths)
+}
+
+fn settings(budget: usize, (given, least): (usize, usize), lengths: [usize; 4]) -> Asked<usize> {
     if budget > MOST_POPS {
         return Err(20);
     }
-    room((), list, LIST)?;
+    room((), given, least)?;
     match capacity(lengths) {
         0 => Err(22),
         capacity => Ok(capacity),

@@ -6,22 +6,32 @@ use std::time::{Duration, Instant};
 
 const PATIENCE: Duration = Duration::from_secs(60);
 
-// Gives up after some time, since a long search may have to be run for each step.
 pub fn smallest(
     board: FreeCellBoard,
     found: Difference,
     differs: impl Fn(&FreeCellBoard) -> Option<Difference>,
 ) -> (FreeCellBoard, Difference) {
+    smallest_by(smaller, board, found, differs)
+}
+
+// The same with anything of which there are smaller ones. Gives up after some time, since a long search may have to be run for
+// each step.
+pub fn smallest_by<T>(
+    smaller: impl Fn(&T) -> Vec<T>,
+    given: T,
+    found: Difference,
+    differs: impl Fn(&T) -> Option<Difference>,
+) -> (T, Difference) {
     let start = Instant::now();
-    let (mut board, mut found) = (board, found);
+    let (mut given, mut found) = (given, found);
     loop {
-        let step = smaller(&board)
+        let step = smaller(&given)
             .into_iter()
             .take_while(|_| start.elapsed() < PATIENCE)
             .find_map(|next| differs(&next).map(|difference| (next, difference)));
         match step {
-            Some(next) => (board, found) = next,
-            None => return (board, found),
+            Some(next) => (given, found) = next,
+            None => return (given, found),
         }
     }
 }

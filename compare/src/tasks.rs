@@ -1,13 +1,15 @@
 // One task of each work, and what it reports of a difference.
+use crate::answers::Season;
 use crate::asks::{self, Difference};
 use crate::codes::BOARD;
 use crate::draws::Draws;
 use crate::original::freecell::board::FreeCellBoard;
 use crate::progress;
+use crate::sums::Pair;
 use crate::work::{self, Report, Tally};
 use crate::{
-    boards, calls, codes, damage, deep, judging, plain, players, records, refusals, sample, shrink,
-    slips,
+    boards, calls, codes, damage, deep, judging, plain, players, records, refusals, sample,
+    seasons, shrink, slips, sums,
 };
 use crate::{
     listings, oracle_boards, oracle_moves, oracle_papers, oracle_scores, oracle_signatures, texts,
@@ -230,6 +232,55 @@ fn on_player(run: &Run, task: usize, tally: &mut Tally) -> Result<(), Report> {
     Ok(())
 }
 
+// A run of deals.
+fn on_season(run: &Run, task: usize, tally: &mut Tally) -> Result<(), Report> {
+    let mut draws = run.draws(12, task);
+    let season = seasons::season(&mut draws, task);
+    let seed = draws.word();
+    let compare = |season: &Season| seasons::compare(&mut Draws::new(seed, 0, 0), season);
+    match compare(&season) {
+        Ok((number, given)) => {
+            tally.count("runs", format!("number {number}:"), 1);
+            if number == 0 && given.is_empty() {
+                tally.count("runs", "of no deal:", 1);
+            }
+            for one in &given {
+                tally.count("deals", format!("answer {}:", one.answer), 1);
+            }
+            Ok(())
+        }
+        Err(found) => {
+            let differs = |season: &Season| compare(season).err();
+            let (season, found) = shrink::smallest_by(seasons::smaller, season, found, differs);
+            let report = without_board(found);
+            Err(format!("{report}\nthe smallest run found\n  {season:?}"))
+        }
+    }
+}
+
+// Two sheets added.
+fn on_sum(run: &Run, task: usize, tally: &mut Tally) -> Result<(), Report> {
+    let mut draws = run.draws(13, task);
+    let pair = sums::pair(&mut draws);
+    let seed = draws.word();
+    let compare = |pair: &Pair| sums::compare(&mut Draws::new(seed, 0, 0), pair);
+    match compare(&pair) {
+        Ok(number) => {
+            tally.count("sums", format!("{number}:"), 1);
+            Ok(())
+        }
+        Err(found) => {
+            let differs = |pair: &Pair| compare(pair).err();
+            let (pair, found) = shrink::smallest_by(sums::smaller, pair, found, differs);
+            let [into, other] = pair.map(|sheet| asks::shown(&sheet.words()));
+            let report = without_board(found);
+            Err(format!(
+                "{report}\nthe smallest sheets found\n  {into}\n  {other}"
+            ))
+        }
+    }
+}
+
 // Damaged inputs to a function, until one is refused.
 fn on_damage(run: &Run, task: usize, tally: &mut Tally) -> Result<(), Report> {
     let mut draws = run.draws(4, task);
@@ -284,6 +335,10 @@ pub fn done(run: &Run, name: &'static str, tasks: usize) -> Result<(), Report> {
             on_number(run, task, tally)
         }),
         "papers" => work::run(name, all, threads, |task, tally| on_paper(run, task, tally)),
+        "seasons" => work::run(name, all, threads, |task, tally| {
+            on_season(run, task, tally)
+        }),
+        "sums" => work::run(name, all, threads, |task, tally| on_sum(run, task, tally)),
         "players" => work::run(name, all, threads, |task, tally| {
             on_player(run, task, tally)
         }),

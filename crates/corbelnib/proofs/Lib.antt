@@ -6,6 +6,7 @@ pub mod Listing
 pub mod Papering
 pub mod Telling
 pub mod Judging
+pub mod Seasoning
 pub mod Returning
 pub mod Calls
 pub mod Unique

@@ -6,3 +6,4 @@ pub mod Lists
 pub mod Papers
 pub mod Values
 pub mod Judged
+pub mod Season

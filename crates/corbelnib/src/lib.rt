@@ -9,6 +9,8 @@ ghost use Rattle.corbelnib.specs.Lists.{candidatesLeft, movesLeft, token
 ghost use Rattle.corbelnib.specs.Papers.{lineReadLeft, lineWrittenLeft};
 ghost use Rattle.corbelnib.specs.Values.{signatureLeft, priorityLeft, scoresLeft, featuresLeft};
 ghost use Rattle.corbelnib.specs.Judged.{leaves, judgeLeft};
+ghost use Rattle.corbelnib.specs.Season.{seasonLeft, addLeft};
+ghost use Rattle.season.specs.Season.{lentOf};
 use board::Examined;
 use generate::Way;
 use score::FeaturesAnswer;
@@ -316,4 +318,43 @@ pub extern "C" fn corbelnib_judge(
         return number;
     }
     number
+}
+
+// The sheet over the hands of a run of numbers: 41, 20, 21, 22.
+#[no_mangle]
+pub extern "C" fn corbelnib_season(
+    first: usize,
+    last: usize,
+    budget: usize,
+    partial: u8,
+    nodes: &mut [u32],
+    heap: &mut [u64],
+    keys: &mut [u64],
+    costs: &mut [u8],
+    sheet: &mut [u64],
+) -> u8
+    ensures { λ r. ⌜ left r (lentOf (now (nodes .exit)) (now (heap .exit)) (now (keys .exit)) (now (costs .exit)) (now (sheet .exit))) ≡ seasonLeft first last budget partial (lentOf (now (nodes .entry)) (now (heap .entry)) (now (keys .entry)) (now (costs .entry)) (now (sheet .entry))) ⌝ }
+{
+    let allowed = partial != 0;
+    let said = season::season(
+        first,
+        last,
+        budget,
+        allowed,
+        nodes,
+        heap,
+        keys,
+        costs,
+        sheet,
+    );
+    tell::verdict(said)
+}
+
+// A sheet added to the first, where it stands: 47, 45, 44.
+#[no_mangle]
+pub extern "C" fn corbelnib_add(into: &mut [u64], other: &[u64]) -> u8
+    ensures { λ r. ⌜ left r (now (into .exit)) ≡ addLeft (now (into .entry)) (now (other .entry)) ⌝ }
+{
+    let said = sheets::total::add(into, other);
+    tell::verdict(said)
 }

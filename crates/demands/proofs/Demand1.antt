@@ -45,13 +45,14 @@ use Rattle.corbelnib.specs.Lists.{listLeft, candidatesLeft, wayAsked, foundBy, 
 use Rattle.corbelnib.specs.Papers.{lineReadLeft, lineWrittenLeft}
 use Rattle.corbelnib.specs.Values.{featureRoom, signatureLeft, priorityLeft, scoresLeft, numbersLeft, featuresLeft}
 use Rattle.corbelnib.specs.Judged.{isAnswer}
-use Rattle.demands.specs.Calls.{Entry, examine, read, deal, number, move, replay, chain, moves, candidates, token, priority, scores, signature, features, capacity, judge, readLine, writeLine}
+use Rattle.demands.specs.Calls.{Entry, examine, read, deal, number, move, replay, chain, moves, candidates, token, priority, scores, signature, features, capacity, judge, readLine, writeLine, season, add}
 use Rattle.demands.specs.Calls.{boundary, Call, promise}
 use Rattle.demands.specs.Demand1.{isIn, boards, ofMoves, hands, refusals, placeOf, Examined, Cleared, Demand1}
 use Rattle.demands.proofs.Refusing.{Refuses, by-test, asked-refuses, fine-refuses, board-refuses, image-refuses, deck-refuses, step-refuses, priority-refuses, in-moves, in-first, in-second}
 use Rattle.demands.proofs.Crossing.{Keeps, hands-back, refuses, crosses, room-keeps, good-board, asked-good, kept}
 use Rattle.demands.proofs.Papers.{readOutcome, writeOutcome, read-stops, write-stops, line-good, paper-keeps}
 use Rattle.demands.proofs.Searching.{judge-keeps, searching, same-number, answered}
+use Rattle.demands.proofs.Seasons.{season-keeps, season-clears, add-keeps}
 
 -- ---- which numbers a line of moves ends with: 0, or that of a bad move
 
@@ -247,6 +248,8 @@ every-keeps capacity c = capacity-keeps c
 every-keeps judge c = judge-keeps c
 every-keeps readLine c = read-line-keeps c
 every-keeps writeLine c = write-line-keeps c
+every-keeps season c = season-keeps c
+every-keeps add c = add-keeps c
 
 -- ---- the list of them
 
@@ -270,8 +273,10 @@ listed-at capacity = refl
 listed-at judge = refl
 listed-at readLine = refl
 listed-at writeLine = refl
+listed-at season = refl
+listed-at add = refl
 
-listed-all : length boundary ≡ 18
+listed-all : length boundary ≡ 20
 unfolding boundary
 listed-all = refl
 
@@ -303,5 +308,6 @@ demand1 =
       numbered = λ {e} c. kept e c (every-keeps e c) .numbered;
       keeps = λ {e} c. kept e c (every-keeps e c) .keeps;
       clears = scratch-clears;
+      clearsAll = season-clears;
       noRoom = λ c e. list-stays c (ap isAnswer e) e;
     }

@@ -51,10 +51,10 @@ module _ (c : Call number) where
 
   -- what is dealt lies in the room: the number is one, and the room is large enough
   module _ (done : c .number ≡ 0) where
-    is-number : isNumber (c .input) ≡ true
+    pub is-number : isNumber (c .input) ≡ true
     is-number = kept number c (number-keeps c) .examines (ap (λ (n : ℕ). eqb n 0) done)
 
-    enough : boardRoom ≤ length (c .before)
+    pub enough : boardRoom ≤ length (c .before)
     enough = by (decLe boardRoom (length (c .before)))
       where
         by : Dec (boardRoom ≤ length (c .before)) → boardRoom ≤ length (c .before)

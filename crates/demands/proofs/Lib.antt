@@ -1,4 +1,5 @@
--- The three demands hold, `demand1`, `demand2`, `demand3`, and what the requests add: `handsByNumber`, `whyRefused`, `linesOnPaper`, `bestLine`.
+-- The three demands hold, `demand1`, `demand2`, `demand3`, and what the requests add: `handsByNumber`, `whyRefused`, `linesOnPaper`, `bestLine`,
+-- `seasonsFigures`.
 pub mod Examples
 pub mod Refusing
 pub mod Crossing
@@ -6,6 +7,7 @@ pub mod Searching
 pub mod Hashing
 pub mod Replaying
 pub mod Papers
+pub mod Seasons
 pub mod Demand1
 pub mod Demand2
 pub mod Demand3
@@ -13,3 +15,4 @@ pub mod HandsByNumber
 pub mod WhyRefused
 pub mod LinesOnPaper
 pub mod BestLine
+pub mod SeasonsFigures

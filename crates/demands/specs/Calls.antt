@@ -15,7 +15,10 @@ use Rattle.corbelnib.specs.Boards.{readLeft, dealLeft, numberLeft, moveLeft, re
 use Rattle.corbelnib.specs.Lists.{movesLeft, candidatesLeft, tokenLeft}
 use Rattle.corbelnib.specs.Papers.{lineReadLeft, lineWrittenLeft}
 use Rattle.corbelnib.specs.Values.{priorityLeft, scoresLeft, signatureLeft, featuresLeft}
-use Rattle.corbelnib.specs.Judged.{judgeLeft}
+use Rattle.corbelnib.specs.Judged.{flag, judgeLeft}
+use Rattle.corbelnib.specs.Season.{seasonLeft, addLeft}
+use Rattle.sheets.specs.Over.{Settings}
+use Rattle.season.specs.Season.{Lent as SeasonLent, settingsIn}
 
 -- the functions that C can call: corbelnib_examine, corbelnib_read, ..
 pub data Entry : Type 0 where
@@ -37,17 +40,26 @@ pub data Entry : Type 0 where
   judge : Entry
   readLine : Entry
   writeLine : Entry
+  season : Entry
+  add : Entry
 
 -- all of them (tools/boundary.sh holds this list against the code and the header)
 unfoldable pub boundary : List Entry
 boundary =
-    examine ∷ read ∷ deal ∷ number ∷ move ∷ replay ∷ chain ∷ moves ∷ candidates ∷ token ∷ priority ∷ scores ∷ signature ∷ features ∷ capacity ∷ judge ∷ readLine ∷ writeLine ∷ []
+    examine ∷ read ∷ deal ∷ number ∷ move ∷ replay ∷ chain ∷ moves ∷ candidates ∷ token ∷ priority ∷ scores ∷ signature ∷ features ∷ capacity ∷ judge ∷ readLine ∷ writeLine ∷ season ∷ add ∷ []
 
 -- ---- what goes in, and what is lent
 
 -- the search is asked about a board, with a budget, and whether a best-progress list is allowed (0 is no)
 pub record Question : Type 0 where
   pub board : List ℕ
+  pub budget : ℕ
+  pub partial : ℕ
+
+-- a season is asked for the hands of a run of numbers, with a budget and the same flag
+pub record Run : Type 0 where
+  pub first : ℕ
+  pub last : ℕ
   pub budget : ℕ
   pub partial : ℕ
 
@@ -61,7 +73,7 @@ pub record Lent : Type 0 where
   pub pops : ℕ
   pub moves : ℕ
 
--- a board, an image or a deck; a number; a board and a record, a list or a text; a board and a kind; four lengths; a question
+-- a board, an image or a deck; a number; a board and a record, a list or a text; a board and a kind; four lengths; a question; a run; a sheet
 abbrev pub In : Entry → Type 0
 In examine = List ℕ
 In read = List ℕ
@@ -81,8 +93,10 @@ In capacity = ℕ × (ℕ × (ℕ × ℕ))
 In judge = Question
 In readLine = List ℕ × List ℕ
 In writeLine = List ℕ × List ℕ
+In season = Run
+In add = List ℕ
 
--- nothing; room; room and the place of a count; places of scores or of a signature; the search's
+-- nothing; room; room and the place of a count; places of scores or of a signature; the search's; the season's; the sheet that is added to
 abbrev pub Places : Entry → Type 0
 Places examine = Unit {0}
 Places read = List ℕ
@@ -102,6 +116,8 @@ Places capacity = Unit {0}
 Places judge = Lent
 Places readLine = List ℕ × ℕ
 Places writeLine = List ℕ × ℕ
+Places season = SeasonLent
+Places add = List ℕ
 
 -- ---- what each function promises in crates/corbelnib/src/lib.rt: its number and every lent place, from what went in and what lay there
 
@@ -129,6 +145,8 @@ promise judge q l =
     searchLeft (judgeLeft (l .nodes) (l .heap) (l .keys) (l .costs) (l .list) (l .pops) (l .moves) (q .board) (q .budget) (q .partial))
 promise readLine i l = lineReadLeft (i .0) (i .1) (l .0) (l .1)
 promise writeLine i l = lineWrittenLeft (i .0) (i .1) (l .0) (l .1)
+promise season r l = seasonLeft (r .first) (r .last) (r .budget) (r .partial) l
+promise add other into = addLeft into other
 
 -- one call, with its promise
 pub record Call (e : Entry) : Type 0 where
@@ -149,3 +167,7 @@ pub record GoodBoard (bytes : List ℕ) : Type 0 where
 -- how many nodes the lent scratch holds
 abbrev pub capacityIn : Lent → ℕ
 capacityIn l = capacityOf (length (l .nodes)) (length (l .heap)) (length (l .keys)) (length (l .costs))
+
+-- the settings of a season: its budget, how many nodes the lent scratch holds, its flag
+abbrev pub settingsBy : Run → SeasonLent → Settings
+settingsBy r l = settingsIn l (r .budget) (flag (r .partial))

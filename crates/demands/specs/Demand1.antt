@@ -14,10 +14,13 @@ use Rattle.intake.specs.Deal.{dealAsked}
 use Rattle.intake.specs.Number.{isNumber}
 use Rattle.base.specs.Blank.{blank}
 use Rattle.corbelnib.specs.Judged.{isAnswer}
-use Rattle.demands.specs.Calls.{Entry, examine, read, deal, number, move, replay, chain, moves, candidates, token, priority, scores, signature, features, capacity, judge, readLine, writeLine}
-use Rattle.demands.specs.Calls.{boundary, Call, GoodBoard, capacityIn}
+use Rattle.demands.specs.Calls.{Entry, examine, read, deal, number, move, replay, chain, moves, candidates, token, priority, scores, signature, features, capacity, judge, readLine, writeLine, season, add}
+use Rattle.demands.specs.Calls.{boundary, Call, GoodBoard, capacityIn, settingsBy}
 use Rattle.moves.specs.Written.{listRoom}
 use Rattle.solver.specs.Searched.{mostPops}
+use Rattle.sheets.specs.Figures.{sheetRoom}
+use Rattle.sheets.specs.Good.{goodSheet}
+use Rattle.sheets.specs.Adding.{sameSettings, apart}
 
 -- ---- SCOPE.md's numbers
 
@@ -53,6 +56,8 @@ refusals capacity = []
 refusals judge = boards ++ (20 ∷ 21 ∷ 22 ∷ [])
 refusals readLine = boards ++ (21 ∷ 31 ∷ [])
 refusals writeLine = boards ++ (31 ∷ 21 ∷ [])
+refusals season = 41 ∷ 20 ∷ 21 ∷ 22 ∷ []
+refusals add = 47 ∷ 45 ∷ 44 ∷ []
 
 -- the numbers with which a function hands something back. A replay that meets a bad move (30, 33 to 40) tells its place
 -- and the board before it; a search without node room (23) tells its pops; a line on paper tells the place of a wrong character (42), of a
@@ -76,6 +81,8 @@ hands capacity n = true
 hands judge n = isAnswer n
 hands readLine n = eqb n 0 || isIn n (42 ∷ ofMoves)
 hands writeLine n = eqb n 0 || isIn n (43 ∷ ofMoves)
+hands season n = eqb n 0
+hands add n = eqb n 0
 
 -- ---- what a function must have found when it hands something back
 
@@ -93,6 +100,21 @@ pub record GoodSearch (c : Call judge) : Type 0 where
   pub budget : c .input .budget ≤ mostPops
   pub list : listRoom ≤ length (c .before .list)
   pub root : 1 ≤ capacityIn (c .before)
+
+-- a season: both ends are numbers of hands, a budget of at most 1,000,000, room for a sheet, room for the root
+pub record GoodRun (c : Call season) : Type 0 where
+  pub begins : isNumber (c .input .first) ≡ true
+  pub ends : isNumber (c .input .last) ≡ true
+  pub budget : c .input .budget ≤ mostPops
+  pub sheet : sheetRoom ≤ length (c .before .sheet)
+  pub root : 1 ≤ settingsBy (c .input) (c .before) .capacity
+
+-- two sheets that can be added: good ones, of the same settings, with no number in both
+pub record Addable (into other : List ℕ) : Type 0 where
+  pub one : goodSheet into ≡ true
+  pub two : goodSheet other ≡ true
+  pub same : sameSettings into other ≡ true
+  pub free : apart into other ≡ true
 
 abbrev pub Examined : (e : Entry) → Call e → Type 0
 Examined examine c = GoodBoard (c .input)
@@ -113,6 +135,8 @@ Examined capacity c = Unit {0}
 Examined judge c = GoodSearch c
 Examined readLine c = GoodBoard (c .input .0)
 Examined writeLine c = GoodBoard (c .input .0)
+Examined season c = GoodRun c
+Examined add c = Addable (c .before) (c .input)
 
 -- ---- how a call ends
 
@@ -128,7 +152,14 @@ pub record Cleared (c : Call judge) : Type 0 where
   pub keys : c .after .keys ≡ blank (c .before .keys)
   pub costs : c .after .costs ≡ blank (c .before .costs)
 
--- which of the eighteen a function is
+-- the same after a season
+pub record ClearedAll (c : Call season) : Type 0 where
+  pub nodes : c .after .nodes ≡ blank (c .before .nodes)
+  pub heap : c .after .heap ≡ blank (c .before .heap)
+  pub keys : c .after .keys ≡ blank (c .before .keys)
+  pub costs : c .after .costs ≡ blank (c .before .costs)
+
+-- which of the twenty a function is
 abbrev pub placeOf : Entry → ℕ
 placeOf examine = 0
 placeOf read = 1
@@ -148,13 +179,15 @@ placeOf capacity = 14
 placeOf judge = 15
 placeOf readLine = 16
 placeOf writeLine = 17
+placeOf season = 18
+placeOf add = 19
 
 pub record Demand1 : Type 0 where
   -- "Nothing traps, nothing runs on. No board image, deck, move, list, budget or lent memory makes it trap": whatever goes in and
   -- whatever lies in the lent places, there is one end
   pub oneEnd : {e : Entry} (x y : Call e) → x .input ≡ y .input → x .before ≡ y .before → SameEnd x y
-  -- "Every entry point ..": these eighteen
-  pub many : length boundary ≡ 18
+  -- "Every entry point ..": these twenty
+  pub many : length boundary ≡ 20
   pub all : (e : Entry) → getD boundary (placeOf e) judge ≡ e
   -- ".. examines what it gets": a function that hands something back was given what SCOPE.md asks for
   pub examines : {e : Entry} (c : Call e) → hands e (c .number) ≡ true → Examined e c
@@ -162,6 +195,7 @@ pub record Demand1 : Type 0 where
   pub numbered : {e : Entry} (c : Call e) → (hands e (c .number) || isIn (c .number) (refusals e)) ≡ true
   -- "and changes nothing lent"
   pub keeps : {e : Entry} (c : Call e) → hands e (c .number) ≡ false → c .after ≡ c .before
-  -- "(running out of node room clears the scratch)", and so do the answers; out of room, the list buffer stays
+  -- "(running out of node room clears the scratch)", and so do the answers and a season; out of room, the list buffer stays
   pub clears : (c : Call judge) → isAnswer (c .number) ≡ true → Cleared c
+  pub clearsAll : (c : Call season) → c .number ≡ 0 → ClearedAll c
   pub noRoom : (c : Call judge) → c .number ≡ 23 → c .after .list ≡ c .before .list

@@ -8,3 +8,4 @@ pub mod HandsByNumber
 pub mod WhyRefused
 pub mod LinesOnPaper
 pub mod BestLine
+pub mod SeasonsFigures

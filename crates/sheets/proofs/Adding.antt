@@ -15,14 +15,13 @@ use Rattle.base.proofs.Words.{first, second, same-test}
 use Rattle.base.proofs.Sums.{sum-same, sum-add, sum-part}
 use Rattle.sheets.specs.declared.Side.{Side}
 use Rattle.sheets.specs.Figures.{Figure, theBudget, theCapacity, theFlag, answers, allPops, markList, markDeal, lists, covers, told}
-use Rattle.sheets.specs.Over.{Settings, Result, behind, keyList, keyDeal, figureOver, sheetOver, between}
+use Rattle.sheets.specs.Over.{Settings, Result, behind, keyList, keyDeal, figureOver, sheetOver}
 use Rattle.sheets.specs.Good.{covered, deals, wins, goodMark, goodSheet}
 use Rattle.sheets.specs.Adding.{flagOf, sameSettings, apart, keyIn, better, addedFigure, added, addAsked}
 use Rattle.sheets.proofs.Reading.{Stands, words-same}
 use Rattle.sheets.proofs.Covers.{covered-added, covered-is}
 use Rattle.sheets.proofs.Overs.{over-same, over-or}
-use Rattle.sheets.proofs.Joined.{lesser-by, over-tells}
-use Rattle.sheets.proofs.Entered.{between-apart, runs-add}
+use Rattle.sheets.proofs.Joined.{lesser-by, over-tells, sum-of-sheets}
 use Rattle.sheets.proofs.Goodness.{Marked, mark-none, mark-some, none-good, some-good, IsGood, good-is, is-good, Answered, sheet-good}
 use Rattle.sheets.proofs.Sums.{Same, same-is, is-same, apart-at, apart-by, added-tells, added-long, key-added, key-none, key-some, key-below, key-tells}
 
@@ -390,20 +389,18 @@ module _ (s : Settings) (r : ℕ → Result) (low : s .budget ≤ 1000000) where
         flag = ap flagOf (over-tells s r p theFlag tt ∙ sym (over-tells s r q theFlag tt));
       }
 
-  -- the sheets over first to m and m + 1 to last are added, and give the sheet over first to last
-  pub runs-asked : (first m last : ℕ) → first ≤ m + 1 → m ≤ last
-      → ((i : ℕ) → i < 32000 → between first m (suc i) ≡ true → Answered (s .budget) (r (suc i)))
-      → ((i : ℕ) → i < 32000 → between (m + 1) last (suc i) ≡ true → Answered (s .budget) (r (suc i)))
-      → addAsked (sheetOver s r (between first m)) (sheetOver s r (between (m + 1) last)) ≡ given (sheetOver s r (between first last))
-  runs-asked first m last h k fa fb =
-      is-given A B (good-is A (sheet-good s r (between first m) low fa)) (good-is B (sheet-good s r (between (m + 1) last) low fb))
-      (same-over (between first m) (between (m + 1) last))
-      (apart-by A B (λ i l. ap₂ (λ (x y : Bool). x && y) (covered-is s r (between first m) i l) (covered-is s r (between (m + 1) last) i l)
-      ∙ between-apart first m last (suc i)))
-      ∙ ap given (runs-add first m last s r h k)
+  -- the sheets over two sets of deals that share no number are added, and give the sheet over both
+  pub overs-asked : (p q : ℕ → Bool) → ((i : ℕ) → i < 32000 → (p (suc i) && q (suc i)) ≡ false)
+      → ((i : ℕ) → i < 32000 → p (suc i) ≡ true → Answered (s .budget) (r (suc i)))
+      → ((i : ℕ) → i < 32000 → q (suc i) ≡ true → Answered (s .budget) (r (suc i)))
+      → addAsked (sheetOver s r p) (sheetOver s r q) ≡ given (sheetOver s r (λ n. p n || q n))
+  overs-asked p q none fa fb =
+      is-given A B (good-is A (sheet-good s r p low fa)) (good-is B (sheet-good s r q low fb)) (same-over p q)
+      (apart-by A B (λ i l. ap₂ (λ (x y : Bool). x && y) (covered-is s r p i l) (covered-is s r q i l) ∙ none i l))
+      ∙ ap given (sum-of-sheets s r p q none)
     where
       A : List ℕ
-      A = sheetOver s r (between first m)
+      A = sheetOver s r p
 
       B : List ℕ
-      B = sheetOver s r (between (m + 1) last)
+      B = sheetOver s r q

@@ -16,7 +16,7 @@ use Rattle.sheets.proofs.Reading.{words-tell}
 use Rattle.sheets.proofs.Bits.{packed-bit, joined-bit}
 
 pub covered-at : (a : List ℕ) (i : ℕ) → covered a (suc i) ≡ eqb (bitAt (told a (covers (i / 64))) (i % 64)) 1
-unfolding covered
+unfolding covered bitAt
 covered-at a i =
     ap (λ (j : ℕ). eqb (bitAt (told a (covers (j / 64))) (j % 64)) 1) (let q : suc i - 1 ≡ i = omega arith in q)
 

@@ -10,7 +10,6 @@ use lib.Dec.{eqb, leb}
 use lib.ListN.{length, getD}
 use Rattle.base.specs.Words.{every, sum}
 use Rattle.base.proofs.Words.{second-fails, first-fails}
-use Rattle.board.specs.Inner.{bitAt}
 use Rattle.sheets.specs.declared.Side.{Side}
 use Rattle.sheets.specs.declared.Side.the-variants.{Shortest as shortest, Longest as longest}
 use Rattle.sheets.specs.Figures.{theBudget, answers, allPops, markList, markDeal, lists, told}
@@ -19,7 +18,7 @@ use Rattle.sheets.specs.Good.{covered, deals, wins, isAbsent, isBest, ha
 
 -- a bit of a word
 pub covered-bit : (a : List ℕ) (n : ℕ) → eqb (getD a (216 + (n - 1) / 64) 0 / 2 ^ ((n - 1) % 64) % 2) 1 ≡ covered a n
-unfolding covered told bitAt
+unfolding covered told
 covered-bit a n = refl
 
 module _ (e : Side) (m : ℕ) where

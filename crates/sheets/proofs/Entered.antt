@@ -1,5 +1,5 @@
 -- One deal more: what entering its result makes of a sheet is the sheet over that deal too. Runs of deals.
-use mathlib.Core.Path.{_≡_, refl, sym, ap, ap₂, _∙_, fun-ext}
+use mathlib.Core.Path.{_≡_, refl, sym, ap, ap₂, _∙_}
 use mathlib.Core.Bool.{Bool, true, false, cond, _&&_, _||_}
 use mathlib.Core.List.{List}
 use Prim.Native.Nat.{ℕ, suc, min, _+_, _*_, _-_, _/_, _%_, _^_, _<_, _≤_}
@@ -14,12 +14,11 @@ use Rattle.base.proofs.Sums.{sum-zero, sum-one}
 use Rattle.sheets.specs.declared.Side.{Side}
 use Rattle.sheets.specs.Figures.{answersCounted, Figure, theBudget, theCapacity, theFlag, answers, allPops, markList, markDeal, lists, covers, told}
 use Rattle.sheets.specs.Over.{Settings, Result, won, over, keyOf, noKey, bestKey, keyList, keyDeal, figureOver, sheetOver, between}
-use Rattle.sheets.specs.Adding.{added}
 use Rattle.sheets.specs.Noted.{leads, notedFigure, noted}
 use Rattle.sheets.proofs.Reading.{Stands, words-same}
 use Rattle.sheets.proofs.Overs.{over-or, over-single}
 use Rattle.sheets.proofs.Marks.{least-one, best-or, best-most, mark-below, mark-list, mark-deal, key-over}
-use Rattle.sheets.proofs.Joined.{over-tells, lesser-by, covers-or, sum-of-sheets}
+use Rattle.sheets.proofs.Joined.{over-tells, lesser-by, covers-or}
 
 -- ---- one deal alone
 
@@ -160,13 +159,6 @@ module _ (low m high : ℕ) where
               either-right : (x y : Bool) → y ≡ true → (x || y) ≡ true
               either-right true y q = refl
               either-right false y q = q
-
-  -- the sheets over the two runs add up to the sheet over the whole
-  pub runs-add : (s : Settings) (r : ℕ → Result) → low ≤ m + 1 → m ≤ high
-      → added (sheetOver s r (between low m)) (sheetOver s r (between (m + 1) high)) ≡ sheetOver s r (between low high)
-  runs-add s r a b =
-      sum-of-sheets s r (between low m) (between (m + 1) high) (λ i l. between-apart (suc i))
-      ∙ ap (sheetOver s r) (fun-ext (λ n. between-joined a b n))
 
 -- a run and the number after it
 pub between-next : (low m n : ℕ) → low ≤ m + 1 → (between low m n || eqb n (m + 1)) ≡ between low (m + 1) n

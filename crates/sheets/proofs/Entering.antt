@@ -18,10 +18,10 @@ use Rattle.board.proofs.Bits.{bit-small, bit-word, bit-fits}
 use Rattle.sheets.specs.declared.Side.{Side}
 use Rattle.sheets.specs.declared.Side.the-variants.{Shortest as shortest, Longest as longest}
 use Rattle.sheets.specs.Figures.{answersCounted, Figure, theBudget, theCapacity, theFlag, answers, allPops, markList, markDeal, lists, covers, told}
-use Rattle.sheets.specs.Over.{Settings, Result, won, behind, keyOf}
+use Rattle.sheets.specs.Over.{Settings, Result, won, behind, keyOf, noFigure, zeroSheet}
 use Rattle.sheets.specs.Good.{covered}
 use Rattle.sheets.specs.Adding.{keyIn}
-use Rattle.sheets.specs.Noted.{noFigure, zeroSheet, notedFigure, noted}
+use Rattle.sheets.specs.Noted.{notedFigure, noted}
 use Rattle.sheets.specs.Promises.{Small, markSet, markEntered, Enterable, Raised, WinNoted}
 use Rattle.sheets.proofs.Reading.{Stands, same-words, words-tell, words-long, told-at}
 use Rattle.sheets.proofs.Goodness.{IsGood, good-is, deals-most, answers-most, lists-most}
@@ -247,7 +247,7 @@ module _ {a X1 : List ℕ} (m n : ℕ) (short : m ≤ 200) (ss : Small shortest 
 -- ---- a deal
 
 bit-free : (a : List ℕ) (n : ℕ) → covered a n ≡ false → bitAt (told a (covers ((n - 1) / 64))) ((n - 1) % 64) ≡ 0
-unfolding covered
+unfolding covered bitAt
 bit-free a n e = by-bit (ℕ-discrete (bitAt (told a (covers ((n - 1) / 64))) ((n - 1) % 64)) 1)
   where
     by-bit : Dec (bitAt (told a (covers ((n - 1) / 64))) ((n - 1) % 64) ≡ 1) → bitAt (told a (covers ((n - 1) / 64))) ((n - 1) % 64) ≡ 0

@@ -13,9 +13,8 @@ use Rattle.base.proofs.Words.{true-or-not}
 use Rattle.base.proofs.Sums.{sum-same, sum-add, sum-zero}
 use Rattle.sheets.specs.declared.Side.{Side}
 use Rattle.sheets.specs.Figures.{answersCounted, Figure, theBudget, theCapacity, theFlag, answers, allPops, markList, markDeal, lists, covers, told}
-use Rattle.sheets.specs.Over.{Settings, Result, won, over, keyOf, noKey, bestKey, keyList, keyDeal, figureOver, sheetOver}
+use Rattle.sheets.specs.Over.{Settings, Result, won, over, keyOf, noKey, bestKey, keyList, keyDeal, figureOver, sheetOver, noFigure, zeroSheet}
 use Rattle.sheets.specs.Adding.{flagOf, better, addedFigure, added}
-use Rattle.sheets.specs.Noted.{noFigure, zeroSheet}
 use Rattle.sheets.proofs.Reading.{Stands, words-tell, words-same}
 use Rattle.sheets.proofs.Overs.{both-parts, over-or, over-none}
 use Rattle.sheets.proofs.Marks.{least-same, least-always, best-or, no-list, no-deal, key-over}

@@ -7,9 +7,9 @@ use native.Mathlib.Omega.{arith}
 use lib.Dec.{eqb}
 use Rattle.base.proofs.Words.{not-so}
 use Rattle.sheets.specs.Figures.{theBudget, told}
-use Rattle.sheets.specs.Over.{Settings, Result, figureOver, sheetOver, between}
+use Rattle.sheets.specs.Over.{Settings, Result, figureOver, sheetOver, between, zeroSheet}
 use Rattle.sheets.specs.Good.{goodSheet}
-use Rattle.sheets.specs.Noted.{zeroSheet, noted}
+use Rattle.sheets.specs.Noted.{noted}
 use Rattle.sheets.specs.Promises.{Enterable}
 use Rattle.sheets.proofs.Covers.{covered-is}
 use Rattle.sheets.proofs.Joined.{over-tells, over-nothing}

@@ -1,19 +1,18 @@
 -- What is asked of a sheet that comes from outside (47). Sums are exact, whatever stands in the words.
 use mathlib.Core.Bool.{Bool, cond, _&&_, _||_}
 use mathlib.Core.List.{List}
-use Prim.Native.Nat.{ℕ, _*_, _-_, _/_, _%_}
+use Prim.Native.Nat.{ℕ, _*_, _-_, _^_, _/_, _%_}
 use lib.Dec.{eqb, leb, ltb}
 use lib.ListN.{length}
 use Rattle.base.specs.Words.{every, sum}
-use Rattle.board.specs.Inner.{bitAt}
 use Rattle.sheets.specs.declared.Side.{Side}
 use Rattle.sheets.specs.declared.Side.the-variants.{Shortest as shortest, Longest as longest}
 use Rattle.sheets.specs.Figures.{longestList, lastDeal, theBudget, answers, allPops, markList, markDeal, lists, covers, sheetRoom, told}
 use Rattle.sheets.specs.Over.{over, behind}
 
--- the sheet covers deal number n, which is at least 1
+-- the sheet covers deal number n, which is at least 1: bit (n - 1) % 64 of its word (n - 1) / 64
 unfoldable pub covered : List ℕ → ℕ → Bool
-covered sheet n = eqb (bitAt (told sheet (covers ((n - 1) / 64))) ((n - 1) % 64)) 1
+covered sheet n = eqb (told sheet (covers ((n - 1) / 64)) / 2 ^ ((n - 1) % 64) % 2) 1
 
 -- how many deals it covers, and how many of them it calls won
 unfoldable pub deals : List ℕ → ℕ

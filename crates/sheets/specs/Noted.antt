@@ -1,4 +1,4 @@
--- A sheet with no deal, and one deal's result entered into a sheet.
+-- One deal's result entered into a sheet.
 use mathlib.Core.Bool.{Bool, cond, _&&_}
 use mathlib.Core.List.{List}
 use Prim.Native.Nat.{ℕ, _+_, _-_, _^_, _/_, _%_}
@@ -6,23 +6,8 @@ use lib.Dec.{eqb, ltb}
 use lib.ListN.{getD}
 use Rattle.sheets.specs.declared.Side.{Side}
 use Rattle.sheets.specs.Figures.{answersCounted, Figure, theBudget, theCapacity, theFlag, answers, allPops, markList, markDeal, lists, covers, told, wordsOf}
-use Rattle.sheets.specs.Over.{Settings, Result, won, keyOf}
+use Rattle.sheets.specs.Over.{Result, won, keyOf}
 use Rattle.sheets.specs.Adding.{keyIn}
-
--- all zero but for its settings
-unfoldable pub noFigure : Settings → Figure → ℕ
-noFigure s theBudget = s .budget
-noFigure s theCapacity = s .capacity
-noFigure s theFlag = cond (s .partial) 1 0
-noFigure s (answers k) = 0
-noFigure s allPops = 0
-noFigure s (markList e) = 0
-noFigure s (markDeal e) = 0
-noFigure s (lists m) = 0
-noFigure s (covers w) = 0
-
-unfoldable pub zeroSheet : Settings → List ℕ
-zeroSheet s = wordsOf (noFigure s)
 
 -- deal n is won, by a list that is better than the sheet's mark
 abbrev pub leads : Side → List ℕ → ℕ → Result → Bool

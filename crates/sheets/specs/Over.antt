@@ -78,3 +78,20 @@ sheetOver s r p = wordsOf (figureOver s r p)
 -- the numbers of a run of deals: none, if the first is above the last
 unfoldable pub between : ℕ → ℕ → ℕ → Bool
 between low high n = leb low n && leb n high
+
+-- ---- the sheet over no deal
+
+-- all zero but for its settings
+unfoldable pub noFigure : Settings → Figure → ℕ
+noFigure s theBudget = s .budget
+noFigure s theCapacity = s .capacity
+noFigure s theFlag = cond (s .partial) 1 0
+noFigure s (answers k) = 0
+noFigure s allPops = 0
+noFigure s (markList e) = 0
+noFigure s (markDeal e) = 0
+noFigure s (lists m) = 0
+noFigure s (covers w) = 0
+
+unfoldable pub zeroSheet : Settings → List ℕ
+zeroSheet s = wordsOf (noFigure s)

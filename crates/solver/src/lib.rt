@@ -77,7 +77,7 @@ pub fn capacity_of(nodes: usize, heap: usize, keys: usize, costs: usize) -> usiz
 }
 
 // The room for so many nodes.
-fn room_for(capacity: usize) -> Room
+pub fn room_for(capacity: usize) -> Room
     requires { ⌜ capacity ≤ 4294967295 ⌝ }
     ensures { λ r. ⌜ r ≡ record { capacity = capacity; entries = entriesOf capacity } ⌝ }
 {
@@ -99,7 +99,7 @@ fn refused(why: Refusal) -> Judged
 }
 
 // An accepted search; the cost bytes are all zero after it, the other scratch is left as the search leaves it.
-fn judge_at(
+pub fn judge_at(
     b: Board,
     budget: usize,
     partial: bool,

@@ -20,15 +20,15 @@ fn judged(
     let said = r.said;
     let pops = r.pops;
     let moves = r.moves;
-    say::number(base::wide(solver::number(said)));
-    say::number(pops);
-    say::number(moves);
-    say::number(say::dirty_words(nodes));
-    say::number(say::dirty_longs(heap));
-    say::number(say::dirty_longs(keys));
-    say::number(say::dirty_bytes(costs));
+    saying::number(base::wide(solver::number(said)));
+    saying::number(pops);
+    saying::number(moves);
+    saying::number(saying::dirty_words(nodes));
+    saying::number(saying::dirty_longs(heap));
+    saying::number(saying::dirty_longs(keys));
+    saying::number(saying::dirty_bytes(costs));
     say::list(list, moves);
-    say::line_end();
+    saying::line_end();
 }
 
 // A search in the first words of memory that is full of rubbish.
@@ -96,7 +96,7 @@ fn list_long(b: Board, budget: usize, partial: bool, capacity: usize) {
 
 // A search with room for so many nodes (0, 1, 2 or 64) and a list buffer of so many bytes (999, 1,000 or 1,100).
 fn tried(label: &[u8], b: Board, budget: usize, partial: bool, capacity: usize, lent: usize) {
-    say::text(label);
+    saying::text(label);
     match lent {
         999 => list_short(b, budget, partial, capacity),
         1000 => list_even(b, budget, partial, capacity),

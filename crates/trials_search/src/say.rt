@@ -1,65 +1,13 @@
 // What a trial of the search writes: the answer, then what it left in the memory that was lent.
-ghost use Prim.Native.Nat.{_≤_};
+use saying::number;
+use saying::one_if;
+use saying::text;
 
 // What the list buffer holds before a search.
 pub(crate) const MARK: u8 = 7;
 
 fn wide(x: u8) -> u64 {
     x as u64
-}
-
-pub(crate) fn text(s: &[u8]) {
-    io::write_all(1, s);
-}
-
-// A number, with a space before it.
-pub(crate) fn number(n: usize) {
-    io::write_all(1, b" ");
-    io::print_decimal(1, n as u64);
-}
-
-pub(crate) fn line_end() {
-    io::write_all(1, b"\n");
-}
-
-fn one_if(so: bool) -> usize
-    ensures { λ r. ⌜ r ≤ 1 ⌝ }
-{
-    if so {
-        return 1;
-    }
-    0
-}
-
-// How many words are not zero.
-pub(crate) fn dirty_words(room: &[u32]) -> usize {
-    let mut n = 0;
-    let mut k = 0;
-    while k < room.len() {
-        n += one_if(room[k] != 0);
-        k += 1;
-    }
-    n
-}
-
-pub(crate) fn dirty_longs(room: &[u64]) -> usize {
-    let mut n = 0;
-    let mut k = 0;
-    while k < room.len() {
-        n += one_if(room[k] != 0);
-        k += 1;
-    }
-    n
-}
-
-pub(crate) fn dirty_bytes(room: &[u8]) -> usize {
-    let mut n = 0;
-    let mut k = 0;
-    while k < room.len() {
-        n += one_if(room[k] != 0);
-        k += 1;
-    }
-    n
 }
 
 // How many bytes of the list buffer from a place on are as they were.

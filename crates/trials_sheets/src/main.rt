@@ -50,36 +50,11 @@ fn number_of(said: Examined) -> u8 {
     }
 }
 
-fn wide(x: u8) -> u64 {
-    x as u64
-}
-
-fn say_word(at: usize, value: u64) {
-    if value == 0 {
-        return;
-    }
-    io::write_all(1, b" ");
-    io::print_decimal(1, at as u64);
-    io::write_all(1, b":");
-    io::print_decimal(1, value);
-}
-
-fn say_sheet(sheet: &[u64]) {
-    let mut k = 0;
-    while k < sheet.len() {
-        say_word(k, sheet[k]);
-        k += 1;
-    }
-    io::write_all(1, b"\n");
-}
-
 fn added(label: &[u8], into: &mut [u64], other: &[u64]) {
     let said = sheets::total::add(into, other);
-    let number = wide(number_of(said));
-    io::write_all(1, label);
-    io::write_all(1, b" ");
-    io::print_decimal(1, number);
-    say_sheet(into);
+    saying::text(label);
+    saying::byte(number_of(said));
+    saying::sheet(into, 0);
 }
 
 // Up to two words of the first sheet and one of the second are changed; place 716 changes none.

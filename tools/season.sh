@@ -1,0 +1,106 @@
+#!/bin/sh
+# The season's figures over many deals, on all cores of this machine or of several, in shards that are added to one sheet:
+#   tools/season.sh FOLDER [FIRST LAST [BUDGET [NODES [partial]]]]
+# Without them: deals 1 to 32,000, budget 100,000, 2,500,000 nodes (95 MB a core), no partial lists. SHARD deals, 100 unless it is set,
+# make a shard. FOLDER gets `settings`, a sheet for each shard in `shards`, `joblog` (when, where and how long each was judged) and at the
+# end `season.sheet`, which is shown.
+# Killed in the middle, in whatever way, it loses at most the shards that were being judged: the same command again goes on. The files
+# are what it goes by: a shard's file takes its name when it is whole (examples/season.c), a shard without one is judged, and so is one
+# that failed or whose file was deleted. Other settings want another FOLDER.
+# Needs a C compiler and GNU parallel (Debian's package parallel), which takes more options from PARALLEL, as -j4 or '--nice 10'.
+# SSHLOGINS names machines, as ':,one,8/two' (parallel's --sshlogin; the colon is this one). Each needs the program at the same place (its
+# path is printed), rsync, and parallel unless the number of its cores is told; sheets come back here, and nothing is left there.
+# CORBELNIB_ARCHIVE, if set, is a folder with a libcorbelnib.a that is taken as it is.
+set -eu
+root=$(cd "$(dirname "$0")/.." && pwd)
+
+no() { # STATUS WHY..
+    status=$1
+    shift
+    printf 'season.sh: %s\n' "$@" >&2
+    exit "$status"
+}
+
+case $# in
+1 | 3 | 4 | 5 | 6) ;;
+*) no 64 "usage: $0 FOLDER [FIRST LAST [BUDGET [NODES [partial]]]] (its first lines tell more)" ;;
+esac
+given=$1 first=${2:-1} last=${3:-32000} budget=${4:-100000} nodes=${5:-2500000} shard=${SHARD:-100}
+for number in "$first" "$last" "$budget" "$nodes" "$shard"; do
+    case $number in
+    '' | 0?* | *[!0-9]* | ??????????*) no 64 "'$number' is not a number" ;;
+    esac
+done
+case ${6:-no} in
+no) partial=no option='' kind=season-$budget-$nodes ;;
+partial) partial=yes option=--partial kind=season-$budget-$nodes-partial ;;
+*) no 64 "'$6' is not understood: partial, or nothing" ;;
+esac
+[ "$shard" -ge 1 ] || no 64 'SHARD is at least 1'
+[ "$first" -le "$last" ] || no 64 "from $first to $last there is no deal"
+case $(parallel --version 2> /dev/null || true) in
+'GNU parallel'*) ;;
+*) no 69 "GNU parallel is needed (Debian's package parallel)" ;;
+esac
+
+# The program, as examples/season.sh builds it.
+archive=${CORBELNIB_ARCHIVE:-$(sh "$root/tools/archive.sh")}
+archive=$(cd "$archive" && pwd)
+CORBELNIB_ARCHIVE=$archive sh "$root/examples/season.sh" --help > /dev/null
+program=$archive/season
+
+# Every refusal before anything is begun: the run turned round has no deal (a single one is judged).
+"$program" run "$last" "$first" --budget "$budget" --nodes "$nodes" --quiet > /dev/null
+
+mkdir -p "$given/shards" || no 73 "$given cannot be made"
+cd "$given"
+wanted="deals $first to $last, budget $budget, nodes $nodes, partial $partial, shard $shard"
+if [ ! -s settings ]; then
+    echo "$wanted" > settings.new
+    mv settings.new settings
+elif [ "$(cat settings)" != "$wanted" ]; then
+    no 2 "$given was begun with other settings, and wants these or another folder:" "begun with $(cat settings)" "asked for  $wanted"
+fi
+cd shards
+
+# The shards in rising order, as 00001-00100; those that have a whole file (a sheet has 5,728 bytes); and those that have none. On another
+# machine a file is made in the login folder, which is why its name has the settings.
+shards() {
+    from=$first
+    while [ "$from" -le "$last" ]; do
+        to=$((from + shard - 1))
+        [ "$to" -le "$last" ] || to=$last
+        printf '%05d-%05d\n' "$from" "$to"
+        from=$((to + 1))
+    done
+}
+whole() { find . -type f -name "$kind-*.sheet" -size 5728c | sed "s|^\./$kind-||; s|\.sheet\$||"; }
+missing() { { whole; whole; shards; } | sort | uniq -u; }
+count() { printf '%s' "$1" | grep -c . || true; }
+
+all=$(shards)
+left=$(missing)
+echo "season.sh: $(count "$left") of $(count "$all") shards are to be judged, by $program" >&2
+if [ -n "$left" ]; then
+    set -- --colsep - --joblog +../joblog
+    [ -z "${SSHLOGINS:-}" ] || set -- "$@" --sshlogin "$SSHLOGINS" --return "$kind-{1}-{2}.sheet" --cleanup
+    # how far it has come: a bar on a terminal, elsewhere a line for each shard that is done
+    if [ -t 2 ]; then set -- "$@" --bar; else set -- "$@" -v; fi
+    printf '%s\n' "$left" |
+        parallel "$@" -q "$program" run '{1}' '{2}' --budget "$budget" --nodes "$nodes" $option --quiet -o "$kind-{1}-{2}.sheet" >&2 || true
+    left=$(missing)
+    [ -z "$left" ] ||
+        no 1 "$(count "$left") of $(count "$all") shards are not done, $(echo "$left" | head -n 1) first: the same command again goes on"
+fi
+
+covers=$first-$last
+[ "$first" -lt "$last" ] || covers=$first
+"$program" add -o ../season.new $(printf "$kind-%s.sheet\n" $all) ||
+    no 1 'a shard that is refused can be deleted: the same command again judges it anew'
+cd ..
+if ! "$program" show season.new | grep -q "^  deals .*: $covers\$"; then
+    rm season.new
+    no 1 "the sum covers other deals than $covers: a file in $given/shards has others than its name says"
+fi
+mv season.new season.sheet
+"$program" show season.sheet
