@@ -220,6 +220,27 @@ uint8_t corbelnib_priority(const uint8_t *board, size_t board_length, const uint
  * 432 bytes. */
 uint8_t corbelnib_chain(const uint8_t *board, size_t board_length, uint8_t *after, size_t after_length, size_t *moves);
 
+/* Writes the record of the first safe move, which the chain begins with, five bytes, to the start of `record` and tells in `*count` 1; or
+ * tells 0 and writes nothing, if there is none. Played one after the other (corbelnib_move) these are the chain. Refusals: 12 to 15, then
+ * 21 if `record` has fewer than 5 bytes. */
+uint8_t corbelnib_safe(const uint8_t *board, size_t board_length, uint8_t *record, size_t record_length, size_t *count);
+
+/* Tells in `*code` the card on top of a column, 0 to 7, or in a cell, 0 to 3: its code, or 255 for none. Refusals: 12 to 15, then 30 for
+ * a column or cell that is none. */
+uint8_t corbelnib_top(const uint8_t *board, size_t board_length, size_t column, uint8_t *code);
+uint8_t corbelnib_cell(const uint8_t *board, size_t board_length, size_t cell, uint8_t *code);
+
+/* Tells in `*count` how many cards of a suit are home (0 clubs, 1 diamonds, 2 hearts, 3 spades), so that the top card has that value.
+ * Refusals: 12 to 15, then 30 for a suit that is none. */
+uint8_t corbelnib_home(const uint8_t *board, size_t board_length, size_t suit, size_t *count);
+
+/* Tells in `*count` how many cards at most may go to a column at once, by the empty cells and columns alone. Refusals: 12 to 15, then 30
+ * for a column that is none. */
+uint8_t corbelnib_most(const uint8_t *board, size_t board_length, size_t column, size_t *count);
+
+/* Tells in `*won` 1 if all 52 cards are home, else 0. Refusals: 12 to 15. */
+uint8_t corbelnib_won(const uint8_t *board, size_t board_length, uint8_t *won);
+
 /* Writes the seven features of a board to the start of `features`: cards home, moves home at once, blocked low cards,
  * imbalance of the foundations, cells used, empty columns, longest run; elements beyond stay. Refusals: 12 to 15, then 21 if
  * `features` has fewer than 7 elements. */
