@@ -1,0 +1,72 @@
+# The library and the command `corbelnib` (README.md).
+#   make                   builds both; the command is target/command/corbelnib, and ./corbelnib is a link to it
+#   make check             the command's tests (tests/README.md)
+#   make check-sanitized   the same with the address and undefined-behaviour sanitizers in the command's own code
+#   make install PREFIX=.. command, library, header, pkg-config file and man page (DESTDIR is put before all paths)
+# CORBELNIB_ARCHIVE, if set, is a folder with a libcorbelnib.a that is taken as it is; else tools/archive.sh proves and builds it.
+
+PREFIX ?= /usr/local
+BINDIR = $(PREFIX)/bin
+LIBDIR = $(PREFIX)/lib
+INCLUDEDIR = $(PREFIX)/include
+MANDIR = $(PREFIX)/share/man
+CC ?= cc
+CFLAGS ?= -O2
+WARNINGS = -Wall -Wextra -Werror -pedantic
+INSTALL = install
+
+build = target/command
+sanitized = target/command-sanitized
+sources = $(sort $(wildcard command/*.c))
+headers = $(wildcard command/*.h) include/corbelnib.h
+compile = $(CC) -std=c11 $(WARNINGS) -I include
+version := $(shell sed -n 's/^\#define CORBELNIB_VERSION "\(.*\)"/\1/p' include/corbelnib.h command/version.h | head -n 1)
+
+ifdef CORBELNIB_ARCHIVE
+archive = $(CORBELNIB_ARCHIVE)/libcorbelnib.a
+else
+archive = $(build)/libcorbelnib.a
+endif
+
+all: corbelnib
+
+corbelnib: $(build)/corbelnib
+	ln -sf $(build)/corbelnib corbelnib
+
+# proving takes minutes: only what the library is made of sets it off
+ifndef CORBELNIB_ARCHIVE
+$(archive): tools/archive.sh crates.txt $(shell find crates -name '*.rt' -o -name '*.antt')
+	mkdir -p $(build)
+	folder=$$(sh tools/archive.sh) && cp "$$folder/libcorbelnib.a" $@
+endif
+
+$(build)/corbelnib: $(sources) $(headers) $(archive)
+	mkdir -p $(build)
+	$(compile) $(CFLAGS) $(sources) $(archive) $(LDFLAGS) -o $@
+
+$(sanitized)/corbelnib: $(sources) $(headers) $(archive)
+	mkdir -p $(sanitized)
+	$(compile) -g -O1 -fsanitize=address,undefined -fno-sanitize-recover=all $(sources) $(archive) -o $@
+
+check: $(build)/corbelnib
+	COMMAND=$(CURDIR)/$(build)/corbelnib sh tests/run.sh
+
+check-sanitized: $(sanitized)/corbelnib
+	COMMAND=$(CURDIR)/$(sanitized)/corbelnib sh tests/run.sh
+
+install: $(build)/corbelnib
+	$(INSTALL) -d $(DESTDIR)$(BINDIR) $(DESTDIR)$(LIBDIR)/pkgconfig $(DESTDIR)$(INCLUDEDIR) $(DESTDIR)$(MANDIR)/man1
+	$(INSTALL) -m 755 $(build)/corbelnib $(DESTDIR)$(BINDIR)/corbelnib
+	$(INSTALL) -m 644 $(archive) $(DESTDIR)$(LIBDIR)/libcorbelnib.a
+	$(INSTALL) -m 644 include/corbelnib.h $(DESTDIR)$(INCLUDEDIR)/corbelnib.h
+	sed -e 's|@PREFIX@|$(PREFIX)|' -e 's|@VERSION@|$(version)|' command/corbelnib.pc.in > $(DESTDIR)$(LIBDIR)/pkgconfig/corbelnib.pc
+	sed -e 's|@VERSION@|$(version)|' command/corbelnib.1 > $(DESTDIR)$(MANDIR)/man1/corbelnib.1
+
+uninstall:
+	rm -f $(DESTDIR)$(BINDIR)/corbelnib $(DESTDIR)$(LIBDIR)/libcorbelnib.a $(DESTDIR)$(INCLUDEDIR)/corbelnib.h
+	rm -f $(DESTDIR)$(LIBDIR)/pkgconfig/corbelnib.pc $(DESTDIR)$(MANDIR)/man1/corbelnib.1
+
+clean:
+	rm -rf $(build) $(sanitized) corbelnib
+
+.PHONY: all check check-sanitized install uninstall clean
