@@ -33,39 +33,42 @@ static const char who[] = "agree";
 
 #define BOTH 2
 
-/* What came of the comparison. */
+/* What was read, and what came of it. */
 struct outcome {
     bool json;
     struct answer answers[BOTH];
-    struct said why;
+    struct said wrong[BOTH]; /* why an answer can never have been given; empty if it can */
+    struct said why;         /* why the two cannot both be right */
 };
 
 static const char broken_part[] = "A proved program cannot do that: a memory, a disk or a line between them is broken.";
 
-static int impossible(const struct outcome *o, const char *name) {
+static void print_json(bool right, const char *publish, const struct said *because) {
+    printf("{\"version\": \"%s\", \"both_can_be_right\": %s, \"publish\": %s, \"because\": ", CORBELNIB_VERSION, right ? "true" : "false",
+           publish);
+    json_text(because->text);
+    printf("}\n");
+}
+
+static int impossible(const struct outcome *o, const struct said *because) {
     if (o->json) {
-        printf("{\"version\": \"%s\", \"both_can_be_right\": false, \"publish\": null, \"because\": \"%s%s%s\"}\n", CORBELNIB_VERSION,
-               name, *name ? ": " : "", o->why.text);
-        return STATUS_IMPOSSIBLE;
+        print_json(false, "null", because);
+    } else {
+        printf("\n*** THIS CANNOT BE: %s. ***\n%s\nPublish nothing before it is found.\n", because->text, broken_part);
     }
-    printf("\n*** THIS CANNOT BE. %s%s%s. ***\n%s\nPublish neither.\n", name, *name ? ": " : "", o->why.text, broken_part);
     return STATUS_IMPOSSIBLE;
 }
 
-/* The first or the second answer in words that need no escaping. */
-static const char *nth(int which) {
-    return which == 0 ? "the first" : "the second";
-}
-
-static int check_one(struct outcome *o, int which, const struct json *json) {
+static int read_answer(struct outcome *o, int which, const struct json *json) {
     struct answer *answer = &o->answers[which];
     if (!answer_read(json, answer, &o->why)) {
         return complain(STATUS_REFUSED, who, "%s: %s", answer->name, o->why.text);
     }
-    return answer_check(json, answer, &o->why) ? STATUS_DONE : impossible(o, nth(which));
+    answer_check(json, answer, &o->wrong[which]);
+    return STATUS_DONE;
 }
 
-static int read_one(struct outcome *o, int which, const char *name) {
+static int read_file(struct outcome *o, int which, const char *name) {
     struct input input;
     struct json_tree tree;
     o->answers[which].name = input_name(name);
@@ -74,17 +77,13 @@ static int read_one(struct outcome *o, int which, const char *name) {
         return complain(status, who, "%s: %s", input_name(name), o->why.text);
     }
     if (json_read(input.bytes, input.length, &tree, &o->why)) {
-        status = check_one(o, which, tree.values);
+        status = read_answer(o, which, tree.values);
     } else {
         status = complain(STATUS_REFUSED, who, "%s: %s", input_name(name), o->why.text);
     }
     json_free(&tree);
     input_free(&input);
     return status;
-}
-
-static void row(const char *label, const struct said *cells) {
-    printf("%-8s  %-24s  %s\n", label, cells[0].text, cells[1].text);
 }
 
 static void say_end(struct said *said, const struct answer *a) {
@@ -107,22 +106,35 @@ static const char *short_answer(const struct answer *a) {
     return answer_exhausted(a) ? "exhausted" : answer_limit(a) ? "limit" : "no room";
 }
 
+/* The rows of the table, a cell for each answer. */
+enum row { ROW_NAME, ROW_ANSWER, ROW_POPS, ROW_LIST, ROW_BUDGET, ROW_ROOM, ROWS };
+
+static void say_rows(const struct answer *a, struct said *cells) {
+    say(&cells[ROW_NAME], "%s", a->name);
+    say(&cells[ROW_ANSWER], "%u, %s", a->told, short_answer(a));
+    say_number(&cells[ROW_POPS], a->pops);
+    say(&cells[ROW_POPS], " taken");
+    say_end(&cells[ROW_LIST], a);
+    say_number(&cells[ROW_BUDGET], a->budget);
+    say(&cells[ROW_BUDGET], a->partial ? ", partial" : "");
+    say_count(&cells[ROW_ROOM], a->capacity, "board", "boards");
+}
+
 static void print_table(const struct answer *answers) {
-    struct said cells[6][BOTH] = {0};
-    static const char *const labels[] = {"", "answer", "boards", "list", "budget", "room"};
+    static const char *const labels[ROWS] = {"", "answer", "boards", "list", "budget", "room"};
+    struct said cells[BOTH][ROWS] = {0};
+    size_t width = 0;
+    uint64_t signature = 0;
+    corbelnib_signature(answers[0].board, CORBELNIB_BOARD, &signature);
+    printf("Two answers to one board, signature %016llx.\n\n", (unsigned long long)signature);
     for (int i = 0; i < BOTH; i++) {
-        const struct answer *a = &answers[i];
-        say(&cells[0][i], "%s", a->name);
-        say(&cells[1][i], "%u, %s", a->told, short_answer(a));
-        say_number(&cells[2][i], a->pops);
-        say(&cells[2][i], " taken");
-        say_end(&cells[3][i], a);
-        say_number(&cells[4][i], a->budget);
-        say(&cells[4][i], a->partial ? ", partial" : "");
-        say_count(&cells[5][i], a->capacity, "board", "boards");
+        say_rows(&answers[i], cells[i]);
     }
-    for (size_t i = 0; i < sizeof labels / sizeof *labels; i++) {
-        row(labels[i], cells[i]);
+    for (int i = 0; i < ROWS; i++) {
+        width = cells[0][i].length > width ? cells[0][i].length : width;
+    }
+    for (int i = 0; i < ROWS; i++) {
+        printf("%-6s  %-*s  %s\n", labels[i], (int)width, cells[0][i].text, cells[1][i].text);
     }
 }
 
@@ -145,9 +157,8 @@ static int publish(const struct outcome *o) {
     const struct answer *a = o->answers;
     int choice = demand_chooses(&a[0], &a[1], &why);
     if (o->json) {
-        const char *which[] = {"1", "2", "\"either\""};
-        printf("{\"version\": \"%s\", \"both_can_be_right\": true, \"publish\": %s, \"because\": \"%s\"}\n", CORBELNIB_VERSION,
-               which[choice], why.text);
+        static const char *const which[] = {"1", "2", "\"either\""};
+        print_json(true, which[choice], &why);
         return STATUS_DONE;
     }
     printf("\nBoth can be right. Publish %s: %s.\n", choice < BOTH ? a[choice].name : "either", why.text);
@@ -157,14 +168,29 @@ static int publish(const struct outcome *o) {
     return STATUS_DONE;
 }
 
+/* An answer that was never given makes any comparison vain. */
+static bool both_given(struct outcome *o, struct said *because) {
+    for (int i = 0; i < BOTH; i++) {
+        if (o->wrong[i].length) {
+            say(because, "%s%s is no answer that can have been given: %s", because->length ? "; " : "", o->answers[i].name,
+                o->wrong[i].text);
+        }
+    }
+    return because->length == 0;
+}
+
 static int compare(struct outcome *o) {
+    struct said because = {0};
+    if (!both_given(o, &because)) {
+        return impossible(o, &because);
+    }
     if (!one_board(o)) {
         return STATUS_REFUSED;
     }
     if (!o->json) {
         print_table(o->answers);
     }
-    return demand_allows(&o->answers[0], &o->answers[1], &o->why) ? publish(o) : impossible(o, "");
+    return demand_allows(&o->answers[0], &o->answers[1], &o->why) ? publish(o) : impossible(o, &o->why);
 }
 
 int run_agree(int argc, char **argv) {
@@ -178,8 +204,11 @@ int run_agree(int argc, char **argv) {
     if (words.count < BOTH) {
         return wrong_use(who, "two files with answers are expected");
     }
+    if (strcmp(words.word[0], "-") == 0 && strcmp(words.word[1], "-") == 0) {
+        return wrong_use(who, "standard input cannot be both answers");
+    }
     for (int i = 0; i < BOTH; i++) {
-        status = read_one(&outcome, i, words.word[i]);
+        status = read_file(&outcome, i, words.word[i]);
         if (status != STATUS_DONE) {
             return status;
         }

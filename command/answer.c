@@ -58,8 +58,9 @@ static bool read_board(const struct json *json, struct answer *answer, struct sa
     for (size_t i = 0; i < CORBELNIB_BOARD; i++) {
         int high = hex_digit(value->text[2 * i]), low = hex_digit(value->text[2 * i + 1]);
         if (high < 0 || low < 0) {
-            say(why, "byte %zu of the board: ", i);
-            return expected(value, "board", "a byte in two hexadecimal digits, a to f in lower case,", why);
+            struct json at = *value;
+            at.column += 1 + 2 * i;
+            return expected(&at, "board", "a byte in two hexadecimal digits, a to f in lower case,", why);
         }
         answer->board[i] = (uint8_t)(high * 16 + low);
     }

@@ -188,12 +188,16 @@ static void blame_columns(const uint8_t *image, size_t length, struct said *said
         }
         size_t count = image[at];
         if (count > length - at - 1) {
-            say(said, " Byte %zu tells %zu cards in column %zu, and %zu bytes follow it.", at, count, column + 1, length - at - 1);
+            say(said, " Byte %zu tells ", at);
+            say_count(said, count, "card", "cards");
+            say(said, " in column %zu, and ", column + 1);
+            say_count(said, length - at - 1, "byte follows it.", "bytes follow it.");
             return;
         }
         at += 1 + count;
     }
-    say(said, " Its eight columns end before byte %zu, and %zu bytes are left.", at, length - at);
+    say(said, " Its eight columns end before byte %zu, and ", at);
+    say_count(said, length - at, "byte is left.", "bytes are left.");
 }
 
 void blame_image(const uint8_t *image, size_t length, uint8_t number, struct said *said) {
@@ -202,7 +206,9 @@ void blame_image(const uint8_t *image, size_t length, uint8_t number, struct sai
     } else if (number == CORBELNIB_WRONG_VERSION) {
         blame_version(image, length, said);
     } else if (number == CORBELNIB_WRONG_SHAPE && length < IMAGE_COLUMNS_AT) {
-        say(said, " It has %zu bytes behind its count; version, cells and foundations take %d.", length - IMAGE_VERSION_AT, IMAGE_HEAD);
+        say(said, " It has ");
+        say_count(said, length - IMAGE_VERSION_AT, "byte", "bytes");
+        say(said, " behind its count; version, cells and foundations take %d.", IMAGE_HEAD);
     } else if (number == CORBELNIB_WRONG_SHAPE) {
         if (!blame_homes(image, IMAGE_HOMES_AT, said)) {
             blame_columns(image, length, said);

@@ -145,12 +145,13 @@ int demand_chooses(const struct answer *x, const struct answer *y, struct said *
         return by_worth(first ? x : y, first ? FIRST : SECOND, why);
     }
     int choice = worth(x) == 0 ? by_reach(x, y, why) : EITHER;
-    if (choice == EITHER && answer_best(x) != answer_best(y)) {
-        say(why, "they tell the same, and it brings a best line");
+    if (choice != EITHER) {
+        return choice;
+    }
+    if (answer_best(x) != answer_best(y)) {
+        say(why, "neither looked further, and it brings a best line");
         return answer_best(x) ? FIRST : SECOND;
     }
-    if (choice == EITHER) {
-        say(why, "they tell the same");
-    }
-    return choice;
+    say(why, same_answer(x, y) ? "they agree in every number and move" : "neither looked further");
+    return EITHER;
 }

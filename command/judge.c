@@ -26,8 +26,8 @@ const char help_judge[] =
     "  --colour       colour even if the output is no terminal\n"
     "  --json         everything, for programs\n"
     "\n"
-    "examples: corbelnib judge 617\n"
-    "          corbelnib judge 617 --moves\n"
+    "examples: corbelnib judge 8\n"
+    "          corbelnib judge 8 --moves\n"
     "          corbelnib deal 617 | corbelnib judge - --budget 20000 --partial\n"
     "          corbelnib judge hand.img --json > answer.json\n"
     "\n"
@@ -45,7 +45,7 @@ static int wrong_amount(const char *option, const char *word, enum amount amount
     struct said said = {0};
     say(&said, "%s ", option);
     say_quoted(&said, (const unsigned char *)word, strlen(word));
-    say(&said, amount == AMOUNT_TOO_LARGE ? " is more than can be; %s expected" : " is no amount; %s expected", expected);
+    say(&said, amount == AMOUNT_TOO_LARGE ? " is more than can be counted here; %s expected" : " is no amount; %s expected", expected);
     return wrong_use(who, said.text);
 }
 
@@ -80,7 +80,7 @@ static int answer(const struct asked *asked, const struct given *given, const st
     if (!CORBELNIB_IS_ANSWER(verdict.told)) {
         struct refusal refusal = {0};
         refuse(&refusal, verdict.told);
-        tell_refusal(who, given->name, &refusal, asked->json);
+        tell_refusal(who, verdict.told == CORBELNIB_OVER_BUDGET ? "--budget" : "--memory", &refusal, asked->json);
         return STATUS_REFUSED;
     }
     if (asked->json) {

@@ -103,7 +103,7 @@ static void blame_text(const uint8_t *text, size_t length, size_t place, struct 
     } else {
         say(said, "the move ends");
     }
-    say(said, ", and %s.", needed(word, in_word));
+    say(said, " where %s.", needed(word, in_word));
 }
 
 /* The board after the first moves of a list, all of which can be played. */

@@ -25,8 +25,8 @@ const char help_play[] =
     "  --ascii         letters for suits in the picture, and no colour\n"
     "  --colour        colour even if the output is no terminal\n"
     "\n"
-    "examples: corbelnib play 617 '6a 5h 6h'\n"
-    "          corbelnib play 617 --figures < line.txt\n"
+    "examples: corbelnib play 8 '6a 5h 6h'\n"
+    "          corbelnib judge 8 | sed 1d | corbelnib play 8 --figures\n"
     "          corbelnib play board.txt --records moves.bin\n"
     "\n"
     "status: 0 all legal, 1 a move is not, 2 the board or the line is refused, 64 wrong use, 66 no such file, 74 the output failed\n";
@@ -78,21 +78,32 @@ static size_t cards_home(const uint8_t *board) {
     return home;
 }
 
+static void say_legal(struct said *said, const struct played *played) {
+    if (played->moves == 0) {
+        say(said, "no moves; ");
+    } else {
+        say_count(said, played->moves, "move, legal; ", "moves, all legal; ");
+    }
+    if (is_won(played->last)) {
+        say(said, "the hand is won.");
+    } else {
+        say_count(said, cards_home(played->last), "card is", "cards are");
+        say(said, " home.");
+    }
+}
+
 static void print_verdict(const struct given *given, const struct played *played) {
     struct said said = {0};
     say_given(&said, given);
     say(&said, ": ");
     if (played->told != CORBELNIB_DONE) {
         say(&said, "move %zu, %s: %s (%u)", played->moves + 1, played->bad.text, refusal_words(played->told), played->told);
-    } else {
-        say_count(&said, played->moves, "move", "moves");
-        say(&said, played->moves == 1 ? ", legal; " : ", all legal; ");
-        if (is_won(played->last)) {
-            say(&said, "the hand is won.");
-        } else {
-            say_count(&said, cards_home(played->last), "card is", "cards are");
-            say(&said, " home.");
+        /* fc-solve writes v for every run into an empty column */
+        if (played->told == CORBELNIB_OUT_OF_RANGE && strchr(played->bad.text, 'v')) {
+            say(&said, " v and a count stand only where fewer cards go into an empty column than could.");
         }
+    } else {
+        say_legal(&said, played);
     }
     puts(said.text);
 }

@@ -126,7 +126,7 @@ static bool read_cells(struct reader *r) {
     size_t cell = 0;
     for (size_t length; (length = next_word(r, &word)) > 0; cell++) {
         if (cell == CELLS) {
-            say(r->why, "line %zu, card %d: there are %d cells", r->line, CELLS + 1, CELLS);
+            say(r->why, "line %zu, card %d: no more than %d cells are expected", r->line, CELLS + 1, CELLS);
             return false;
         }
         if (!is_empty_cell(word, length) && !read_card(word, length, &layout->cells[cell])) {
