@@ -1,7 +1,9 @@
 # The library and the command `corbelnib` (README.md).
 #   make                   builds both; the command is target/command/corbelnib, and ./corbelnib is a link to it
 #   make check             the command's tests (tests/README.md)
-#   make check-sanitized   the same with the address and undefined-behaviour sanitizers in the command's own code
+#   make check-sanitized   the same with the address and undefined-behaviour sanitizers in the command's own code, and 100,000 damaged inputs
+#   make check-masters     true answers two by two, held to demand 3
+#   make check-fc-solve    hands 1 to 100 beside fc-solve (Debian's package freecell-solver-bin)
 #   make install PREFIX=.. command, library, header, pkg-config file and man page (DESTDIR is put before all paths)
 # CORBELNIB_ARCHIVE, if set, is a folder with a libcorbelnib.a that is taken as it is; else tools/archive.sh proves and builds it.
 
@@ -19,6 +21,11 @@ build = target/command
 sanitized = target/command-sanitized
 sources = $(sort $(wildcard command/*.c))
 headers = $(wildcard command/*.h) include/corbelnib.h
+# all but main, for the tests that call the command's functions
+functions = $(filter-out command/main.c,$(sources))
+sanitizers = -g -O1 -fsanitize=address,undefined -fno-sanitize-recover=all
+# looking for leaks at each end of a process takes seconds, and a process that ends gives all back
+no_leaks = ASAN_OPTIONS=detect_leaks=0
 compile = $(CC) -std=c11 $(WARNINGS) -I include
 version := $(shell sed -n 's/^\#define CORBELNIB_VERSION "\(.*\)"/\1/p' include/corbelnib.h command/version.h | head -n 1)
 
@@ -46,13 +53,29 @@ $(build)/corbelnib: $(sources) $(headers) $(archive)
 
 $(sanitized)/corbelnib: $(sources) $(headers) $(archive)
 	mkdir -p $(sanitized)
-	$(compile) -g -O1 -fsanitize=address,undefined -fno-sanitize-recover=all $(sources) $(archive) -o $@
+	$(compile) $(sanitizers) $(sources) $(archive) -o $@
+
+$(sanitized)/damage: tests/damage.c tests/read_all.c tests/read_all.h $(functions) $(headers) $(archive)
+	mkdir -p $(sanitized)
+	$(compile) $(sanitizers) tests/damage.c tests/read_all.c $(functions) $(archive) -o $@
+
+$(build)/masters: tests/masters.c $(functions) $(headers) $(archive)
+	mkdir -p $(build)
+	$(compile) $(CFLAGS) tests/masters.c $(functions) $(archive) -o $@
 
 check: $(build)/corbelnib
+	COMMAND=$(CURDIR)/$(build)/corbelnib sh tests/papers.sh
 	COMMAND=$(CURDIR)/$(build)/corbelnib sh tests/run.sh
 
-check-sanitized: $(sanitized)/corbelnib
-	COMMAND=$(CURDIR)/$(sanitized)/corbelnib sh tests/run.sh
+check-sanitized: $(sanitized)/corbelnib $(sanitized)/damage
+	$(no_leaks) SANITIZED=yes COMMAND=$(CURDIR)/$(sanitized)/corbelnib sh tests/run.sh
+	$(no_leaks) $(sanitized)/damage 100000 1 tests/seeds/*
+
+check-masters: $(build)/masters
+	$(build)/masters 40 100
+
+check-fc-solve: $(build)/corbelnib
+	COMMAND=$(CURDIR)/$(build)/corbelnib sh tests/fc-solve.sh
 
 install: $(build)/corbelnib
 	$(INSTALL) -d $(DESTDIR)$(BINDIR) $(DESTDIR)$(LIBDIR)/pkgconfig $(DESTDIR)$(INCLUDEDIR) $(DESTDIR)$(MANDIR)/man1
@@ -69,4 +92,4 @@ uninstall:
 clean:
 	rm -rf $(build) $(sanitized) corbelnib
 
-.PHONY: all check check-sanitized install uninstall clean
+.PHONY: all check check-sanitized check-masters check-fc-solve install uninstall clean

@@ -3,6 +3,7 @@
 # A case begins with a line `$ ..`, which a shell runs in tests/data with the command at hand as `corbelnib`. What has to come back
 # follows: standard output with two spaces before each line, standard error with `! `, and the status in a line `= N`. Blank lines and
 # lines that begin with # belong to no case. --update writes what came back into the files.
+# The command's version stands there as VERSION.
 # COMMAND is the command to test, target/command/corbelnib if it is not set. Cases of files named plain-.. are left out where SANITIZED is set.
 set -u
 here=$(cd "$(dirname "$0")" && pwd)
@@ -23,13 +24,14 @@ ln -s "$(cd "$(dirname "$command")" && pwd)/$(basename "$command")" "$scratch/bi
 export PATH="$scratch/bin:$PATH" T="$scratch/tmp" LC_ALL=C TERM=dumb
 unset NO_COLOR
 cd "$here/data" || exit 1
+version=$(corbelnib --version | sed 's/^corbelnib //; s/[.]/[.]/g')
 
 # Runs one line and prints it with what came back. A missing newline at the end of a stream is told.
 came_back() { # LINE
     sh -c "$1" > "$scratch/out" 2> "$scratch/err" < /dev/null
     status=$?
     printf '$ %s\n' "$1"
-    sed 's/^/  /' "$scratch/out"
+    sed "s/$version/VERSION/; s/^/  /" "$scratch/out"
     [ -z "$(tail -c 1 "$scratch/out")" ] || printf '\n  (no newline at the end)\n'
     sed 's/^/! /' "$scratch/err"
     printf '= %s\n' "$status"
