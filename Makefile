@@ -5,7 +5,8 @@
 #   make check-masters     true answers two by two, held to demand 3
 #   make check-fc-solve    hands 1 to 100 beside fc-solve (Debian's package freecell-solver-bin)
 #   make install PREFIX=.. command, library, header, pkg-config file and man page (DESTDIR is put before all paths)
-# CORBELNIB_ARCHIVE, if set, is a folder with a libcorbelnib.a that is taken as it is; else tools/archive.sh proves and builds it.
+# CORBELNIB_ARCHIVE, if set, is a folder with a libcorbelnib.a that is taken as it is; else tools/archive.sh proves and builds it. What was
+# taken or built lies in target/command and serves until the library's sources are newer.
 
 PREFIX ?= /usr/local
 BINDIR = $(PREFIX)/bin
@@ -29,11 +30,7 @@ no_leaks = ASAN_OPTIONS=detect_leaks=0
 compile = $(CC) -std=c11 $(WARNINGS) -I include
 version := $(shell sed -n 's/^\#define CORBELNIB_VERSION "\(.*\)"/\1/p' include/corbelnib.h command/version.h | head -n 1)
 
-ifdef CORBELNIB_ARCHIVE
-archive = $(CORBELNIB_ARCHIVE)/libcorbelnib.a
-else
 archive = $(build)/libcorbelnib.a
-endif
 
 all: corbelnib
 
@@ -41,7 +38,11 @@ corbelnib: $(build)/corbelnib
 	ln -sf $(build)/corbelnib corbelnib
 
 # proving takes minutes: only what the library is made of sets it off
-ifndef CORBELNIB_ARCHIVE
+ifdef CORBELNIB_ARCHIVE
+$(archive): $(CORBELNIB_ARCHIVE)/libcorbelnib.a
+	mkdir -p $(build)
+	cp $< $@
+else
 $(archive): tools/archive.sh crates.txt $(shell find crates -name '*.rt' -o -name '*.antt')
 	mkdir -p $(build)
 	folder=$$(sh tools/archive.sh) && cp "$$folder/libcorbelnib.a" $@

@@ -1,6 +1,6 @@
 /* Reads damaged inputs through every reader of the command: damage COUNT SEED FILE..
- * Each of COUNT inputs is one of the files with one to eight of its bytes changed, taken out, put in or doubled, or cut short. The same seed gives
- * the same inputs. Prints how many there were and how many were still accepted. */
+ * Each of COUNT inputs is one of the files, damaged one to eight times: bytes changed, taken out, put in or doubled, the rest cut off. The
+ * same seed gives the same inputs. Prints how many there were and how many were still accepted. */
 #include <stdio.h>
 #include <stdlib.h>
 #include <string.h>

@@ -1,7 +1,8 @@
 /* Answers of the library itself, held to demand 3 two by two: `corbelnib agree` must never call a true pair impossible.
  *   masters HANDS STEPS
  * Hands 1 to HANDS, of each the board after some random moves, and those near the end of its winning line, are judged with many budgets,
- * memories and flags; every two answers to one board are compared. Prints how often each pair of answers was met; a pair that is called impossible is printed and fails. */
+ * memories and flags; every two answers to one board are compared. Prints how often each pair of answers was met; a pair that is called
+ * impossible is printed and fails. */
 #include <stdio.h>
 #include <stdlib.h>
 #include <string.h>

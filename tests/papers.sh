@@ -13,10 +13,10 @@ wrong() {
     failed=$((failed + 1))
 }
 
-sed -n '/^enum corbelnib_told {/,/^};/s/^ *\(CORBELNIB_[A-Z_]*\) = [0-9]*.*/\1/p' include/corbelnib.h | grep -v '^CORBELNIB_DONE$' | while read -r name; do
-    grep -q "{$name, " command/told.c || echo "command/told.c: no words for $name"
-done > target/papers.said
-while read -r line; do wrong "$line"; done < target/papers.said
+numbers=$(sed -n '/^enum corbelnib_told {/,/^};/s/^ *\(CORBELNIB_[A-Z_]*\) = [0-9]*.*/\1/p' include/corbelnib.h)
+for name in $numbers; do
+    [ "$name" = CORBELNIB_DONE ] || grep -q "{$name, " command/told.c || wrong "command/told.c: no words for $name"
+done
 
 version=$(sed -n 's/^#define CORBELNIB_VERSION "\(.*\)"/\1/p' include/corbelnib.h command/version.h | head -n 1)
 [ "$("$command" --version)" = "corbelnib $version" ] || wrong "--version is not $version"
