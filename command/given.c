@@ -53,17 +53,23 @@ bool given_bytes(const uint8_t *bytes, size_t length, struct given *given, struc
         say(&refusal->words, "it is empty; a board's text, image or record is expected");
         return false;
     }
-    if (text_looks(bytes, length)) {
+    size_t end = text_ends(bytes, length);
+    if (end == length) {
         return take_text(bytes, length, given, refusal);
     }
     bool counted = length >= IMAGE_VERSION_AT && (size_t)256 * bytes[0] + bytes[1] == length - IMAGE_VERSION_AT;
     if (length == CORBELNIB_BOARD && !counted) {
         return take_record(bytes, given, refusal);
     }
-    return take_image(bytes, length, given, refusal);
+    bool taken = take_image(bytes, length, given, refusal);
+    if (refusal->number == CORBELNIB_WRONG_LENGTH) {
+        /* it may have been meant as a text */
+        say(&refusal->words, " It was taken for an image because byte %zu is %u, which stands in no text.", end, bytes[end]);
+    }
+    return taken;
 }
 
-bool given_hand(size_t hand, struct given *given, struct refusal *refusal) {
+static bool given_hand(size_t hand, struct given *given, struct refusal *refusal) {
     given->form = FORM_HAND;
     given->hand = hand;
     uint8_t number = corbelnib_number(hand, given->board, sizeof given->board);

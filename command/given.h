@@ -22,9 +22,6 @@ int given_read(const char *word, struct given *given, struct refusal *refusal);
 /* The board of some bytes, told apart by what they are. False with a refusal. */
 bool given_bytes(const uint8_t *bytes, size_t length, struct given *given, struct refusal *refusal);
 
-/* The board of a hand's number. False with a refusal. */
-bool given_hand(size_t hand, struct given *given, struct refusal *refusal);
-
 /* "Hand 617", "The text in FILE": what the word was taken for. */
 void say_given(struct said *said, const struct given *given);
 

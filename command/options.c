@@ -21,7 +21,8 @@ static const struct option *named(const struct option *options, const char *word
 
 static int wrong_word(const char *who, const char *word, const char *why) {
     struct said said = {0};
-    say(&said, "%s %s", word, why);
+    say_quoted(&said, (const unsigned char *)word, strlen(word));
+    say(&said, " %s", why);
     return wrong_use(who, said.text);
 }
 

@@ -9,7 +9,8 @@
 
 #define MOVES_A_ROW 10
 
-void fold_line(const uint8_t *text, size_t length) {
+/* Prints a line on paper. */
+static void fold_line(const uint8_t *text, size_t length) {
     size_t moves = 0;
     for (size_t i = 0; i < length; i++) {
         bool ends = text[i] == ' ' && ++moves % MOVES_A_ROW == 0;

@@ -18,9 +18,6 @@ void report_words(const struct given *given, const struct settings *settings, co
                   const struct report *report);
 void report_json(const struct given *given, const struct settings *settings, const struct verdict *verdict);
 
-/* Prints a line on paper, ten moves a row. */
-void fold_line(const uint8_t *text, size_t length);
-
 /* Whether an answer brings a list. */
 bool brings_list(uint8_t answer);
 

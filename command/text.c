@@ -23,16 +23,19 @@ static bool is_space(uint8_t byte) {
     return byte == ' ' || byte == '\t';
 }
 
-bool text_looks(const uint8_t *bytes, size_t length) {
-    for (size_t i = 0; i < length; i++) {
-        bool layout = bytes[i] == '\t' || bytes[i] == '\n' || bytes[i] == '\r';
-        bool control = bytes[i] < ' ' || bytes[i] == 0x7f;
-        bool never = bytes[i] == 0xc0 || bytes[i] == 0xc1 || bytes[i] >= 0xf5; /* not in UTF-8 */
-        if ((control && !layout) || never) {
-            return false;
-        }
+static bool in_text(uint8_t byte) {
+    bool layout = byte == '\t' || byte == '\n' || byte == '\r';
+    bool control = byte < ' ' || byte == 0x7f;
+    bool never = byte == 0xc0 || byte == 0xc1 || byte >= 0xf5; /* not in UTF-8 */
+    return layout || (!control && !never);
+}
+
+size_t text_ends(const uint8_t *bytes, size_t length) {
+    size_t i = 0;
+    while (i < length && in_text(bytes[i])) {
+        i++;
     }
-    return true;
+    return i;
 }
 
 static void skip_space(struct reader *r) {

@@ -12,7 +12,7 @@
 /* Reads a text into a layout. False if it is no board's text; `why` then says where and what was expected. */
 bool text_read(const uint8_t *bytes, size_t length, struct layout *layout, struct said *why);
 
-/* Whether no byte stands there that no text has. */
-bool text_looks(const uint8_t *bytes, size_t length);
+/* The place of the first byte that stands in no text; the length if there is none. */
+size_t text_ends(const uint8_t *bytes, size_t length);
 
 #endif
