@@ -1,6 +1,7 @@
 # The library and the command `corbelnib` (README.md).
 #   make                   builds both; the command is target/command/corbelnib, and ./corbelnib is a link to it
-#   make check             the command's tests (tests/README.md)
+#   make syntax            everything in C compiled with every warning an error, plainly and with the sanitizers; needs no library
+#   make check             the tests of the command, of the C boundary and of docs/FOR-TABLES.md (tests/README.md)
 #   make check-sanitized   the same with the address and undefined-behaviour sanitizers in the command's own code, and 100,000 damaged inputs
 #   make check-masters     true answers two by two, held to demand 3
 #   make check-fc-solve    hands 1 to 100 beside fc-solve (Debian's package freecell-solver-bin)
@@ -64,11 +65,26 @@ $(build)/masters: tests/masters.c $(functions) $(headers) $(archive)
 	mkdir -p $(build)
 	$(compile) $(CFLAGS) tests/masters.c $(functions) $(archive) -o $@
 
-check: $(build)/corbelnib
+syntax:
+	for file in $(sources) tests/*.c examples/*.c; do $(compile) -I command -fsyntax-only $$file && \
+	    $(compile) -I command $(sanitizers) -fsyntax-only $$file || exit 1; done
+
+$(build)/lent: tests/lent.c include/corbelnib.h $(archive)
+	mkdir -p $(build)
+	$(compile) $(CFLAGS) tests/lent.c $(archive) -o $@
+
+$(sanitized)/lent: tests/lent.c include/corbelnib.h $(archive)
+	mkdir -p $(sanitized)
+	$(compile) $(sanitizers) tests/lent.c $(archive) -o $@
+
+check: $(build)/corbelnib $(build)/lent
+	$(build)/lent
+	CORBELNIB_ARCHIVE=$(CURDIR)/$(build) CC="$(CC)" sh tests/for-tables.sh
 	COMMAND=$(CURDIR)/$(build)/corbelnib sh tests/papers.sh
 	COMMAND=$(CURDIR)/$(build)/corbelnib sh tests/run.sh
 
-check-sanitized: $(sanitized)/corbelnib $(sanitized)/damage
+check-sanitized: $(sanitized)/corbelnib $(sanitized)/damage $(sanitized)/lent
+	$(no_leaks) $(sanitized)/lent
 	$(no_leaks) SANITIZED=yes COMMAND=$(CURDIR)/$(sanitized)/corbelnib sh tests/run.sh
 	$(no_leaks) $(sanitized)/damage 100000 1 tests/seeds/*
 
@@ -93,4 +109,4 @@ uninstall:
 clean:
 	rm -rf $(build) $(sanitized) corbelnib
 
-.PHONY: all check check-sanitized check-masters check-fc-solve install uninstall clean
+.PHONY: all syntax check check-sanitized check-masters check-fc-solve install uninstall clean

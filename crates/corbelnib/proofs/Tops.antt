@@ -106,7 +106,7 @@ module _ (bytes room : List ℕ) (n : ℕ) where
 
   module _ {b : Board} (e : b ≡ boardIn bytes) (w : length bytes ≡ 432) (r : SafeAnswer) (p : firstTold r ≡ firstAsked b) where
     here : {x : Answer SafeMove} → firstTold r ≡ x → by x ≡ safeLeft bytes room n
-    unfolding safeLeft
+    unfolding safeLeft firstAsked
     here q = ap by (sym q ∙ p) ∙ a-board by bytes firstAsked e w
 
     pub safe-short : (m : SafeMove) → r ≡ answer.First m → length room < 5 → left {A = List ℕ × ℕ} 21 (room, n) ≡ safeLeft bytes room n

@@ -3,7 +3,9 @@ use mathlib.Core.Bool.{Bool, cond}
 use mathlib.Core.List.{List, [], _∷_}
 use Prim.Native.Nat.{ℕ}
 use lib.ListN.{length}
-use Rattle.base.specs.Answer.{Answer}
+use Rattle.base.specs.Answer.{Answer, given}
+use Rattle.board.specs.Verdict.{after}
+use Rattle.board.specs.Record.{examined, shown}
 use Rattle.card.specs.Card.{codeOf}
 use Rattle.questions.specs.Questions.{topAsked, cellAsked, foundationAsked, wonAsked}
 use Rattle.questions.specs.declared.Top.{Top}
@@ -11,7 +13,7 @@ use Rattle.questions.specs.declared.Top.the-variants.{Is, Empty}
 use Rattle.rules.specs.Asked.{mostAsked}
 use Rattle.moves.specs.declared.Move.{Move}
 use Rattle.moves.specs.Written.{written}
-use Rattle.safe.specs.Asked.{firstAsked}
+use Rattle.safe.specs.Safe.{firstSafe}
 use Rattle.safe.specs.declared.SafeMove.{SafeMove}
 use Rattle.safe.specs.declared.SafeMove.the-variants as safe
 use Rattle.corbelnib.specs.Crossing.{Left, left, crossed, asked, within}
@@ -57,4 +59,4 @@ safeMoves safe.NoMove = []
 -- its record at the start of the room, and 1; or 0 and nothing written. 12 to 15, then 21 for room under five bytes
 unfoldable pub safeLeft : List ℕ → List ℕ → ℕ → Left (List ℕ × ℕ)
 safeLeft board room n =
-    crossed (within 5 (length room) (asked board firstAsked)) (room, n) (λ m. left 0 (written room 0 (safeMoves m), length (safeMoves m)))
+    crossed (within 5 (length room) (asked board (λ b. after (examined b) (given (firstSafe (shown b)))))) (room, n) (λ m. left 0 (written room 0 (safeMoves m), length (safeMoves m)))

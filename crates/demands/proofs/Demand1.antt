@@ -37,7 +37,6 @@ use Rattle.score.specs.Asked.{featuresAsked, tokenRoom}
 use Rattle.score.specs.declared.Features.{Features}
 use Rattle.priority.specs.Asked.{priorityBy, priorityAsked}
 use Rattle.safe.specs.Safe.{firstSafe}
-use Rattle.safe.specs.Asked.{firstAsked}
 use Rattle.safe.specs.declared.SafeMove.{SafeMove}
 use Rattle.candidates.specs.Candidates.{candidates as tried}
 use Rattle.paper.specs.Lines.{gives, checked, lineRead, textOf}
@@ -279,7 +278,7 @@ won-keeps c =
     crosses refl _ _ (fine-refuses (refusals won) refl refl refl refl (c .input) question (λ b. tt)) (λ x e. (refl, asked-good x (c .input) question e .0))
 
 safe-keeps : (c : Call safe) → Kept safe c
-unfolding safeLeft firstAsked all
+unfolding safeLeft all
 safe-keeps c =
     let question : Board → Answer SafeMove = λ b. given (firstSafe (shown b)) in
     room-keeps refl 5 (length (c .before .0)) _ _ refl (fine-refuses (refusals safe) refl refl refl refl (c .input) question (λ b. tt))

@@ -14,7 +14,7 @@ use Rattle.corbelnib.proofs.corbelnib_safe.Statement.{statement}
 use Rattle.corbelnib.proofs.corbelnib_safe.Tie as tie
 
 returns : tie.Need-returns
-unfolding safeLeft
+unfolding safeLeft firstAsked
 returns c = let s = c .before .before .before in
     no-board (λ a. crossed (within 5 (length (s .args .bytes .now)) a) (s .args .bytes .now, s .args .count .now) (λ m. left {A = List ℕ × ℕ} 0 (written (s .args .bytes .now) 0 (safeMoves m), length (safeMoves m)))) (s .args .board .now) firstAsked (c .if1 .taken)
 
