@@ -13,10 +13,12 @@ int run_deal(int argc, char **argv);
 int run_judge(int argc, char **argv);
 int run_play(int argc, char **argv);
 int run_agree(int argc, char **argv);
+int run_season(int argc, char **argv);
 
 extern const char help_deal[];
 extern const char help_judge[];
 extern const char help_play[];
 extern const char help_agree[];
+extern const char help_season[];
 
 #endif

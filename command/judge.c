@@ -1,7 +1,4 @@
 /* corbelnib judge: one board, judged. */
-#include <stdio.h>
-#include <string.h>
-
 #include "amount.h"
 #include "commands.h"
 #include "given.h"
@@ -41,32 +38,16 @@ struct asked {
     struct report report;
 };
 
-static int wrong_amount(const char *option, const char *word, enum amount amount, const char *expected) {
-    struct said said = {0};
-    say(&said, "%s ", option);
-    say_quoted(&said, (const unsigned char *)word, strlen(word));
-    say(&said, amount == AMOUNT_TOO_LARGE ? " is more than can be counted here; %s expected" : " is no amount; %s expected", expected);
-    return wrong_use(who, said.text);
-}
-
 static int settle(const struct asked *asked, struct settings *settings) {
     settings->budget = CORBELNIB_BUDGET;
     settings->memory = MEMORY_USUAL;
     settings->partial = asked->partial;
-    if (asked->budget) {
-        enum amount amount = amount_number(asked->budget, &settings->budget);
-        if (amount != AMOUNT_READ) {
-            return wrong_amount("--budget", asked->budget, amount, "decimal digits are");
-        }
-    }
-    if (asked->memory) {
-        enum amount amount = amount_memory(asked->memory, &settings->memory);
-        if (amount != AMOUNT_READ) {
-            return wrong_amount("--memory", asked->memory, amount, "decimal digits and perhaps K, M or G are");
-        }
+    int status = option_number(who, "--budget", asked->budget, &settings->budget);
+    if (status == STATUS_DONE) {
+        status = option_memory(who, "--memory", asked->memory, &settings->memory);
     }
     settings->capacity = capacity_of(settings->memory);
-    return STATUS_DONE;
+    return status;
 }
 
 static int answer(const struct asked *asked, const struct given *given, const struct settings *settings) {

@@ -3,7 +3,13 @@
 #include <stdlib.h>
 #include <string.h>
 
+#include "amount.h"
+
 bool lend(struct scratch *s, size_t capacity) {
+    memset(s, 0, sizeof *s);
+    if (capacity > SIZE_MAX / (2 * NODE_BYTES)) { /* more bytes than can be counted */
+        return false;
+    }
     s->capacity = capacity;
     /* one element more, so that no part is empty and malloc hands out no NULL for it */
     s->nodes = malloc((CORBELNIB_NODES(capacity) + 1) * sizeof *s->nodes);

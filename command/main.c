@@ -13,6 +13,7 @@ static const struct command commands[] = {
     {"judge", run_judge, "look for a winning line", help_judge},
     {"play", run_play, "play a line of moves by the rules", help_play},
     {"agree", run_agree, "two answers to one board, side by side", help_agree},
+    {"season", run_season, "sheets of figures over many deals: made, added, shown", help_season},
 };
 
 #define COMMANDS (sizeof commands / sizeof *commands)

@@ -2,6 +2,7 @@
 
 #include <string.h>
 
+#include "amount.h"
 #include "say.h"
 
 int wrong_use(const char *who, const char *what) {
@@ -48,6 +49,7 @@ static int take(const char *who, int argc, char **argv, int *at, const struct op
 int options_part(const char *who, int argc, char **argv, const struct option *options, size_t most, struct wordlist *words) {
     bool ended = false;
     words->count = 0;
+    words->word = argv;
     for (int i = 0; i < argc; i++) {
         bool dashed = argv[i][0] == '-' && argv[i][1] != '\0';
         if (!ended && strcmp(argv[i], "--") == 0) {
@@ -64,4 +66,22 @@ int options_part(const char *who, int argc, char **argv, const struct option *op
         }
     }
     return STATUS_DONE;
+}
+
+static int wrong_amount(const char *who, const char *option, const char *word, enum amount amount, const char *expected) {
+    struct said said = {0};
+    say(&said, "%s ", option);
+    say_quoted(&said, (const unsigned char *)word, strlen(word));
+    say(&said, amount == AMOUNT_TOO_LARGE ? " is more than can be counted here; %s expected" : " is no amount; %s expected", expected);
+    return wrong_use(who, said.text);
+}
+
+int option_number(const char *who, const char *option, const char *word, size_t *number) {
+    enum amount amount = word ? amount_number(word, number) : AMOUNT_READ;
+    return amount == AMOUNT_READ ? STATUS_DONE : wrong_amount(who, option, word, amount, "decimal digits are");
+}
+
+int option_memory(const char *who, const char *option, const char *word, size_t *bytes) {
+    enum amount amount = word ? amount_memory(word, bytes) : AMOUNT_READ;
+    return amount == AMOUNT_READ ? STATUS_DONE : wrong_amount(who, option, word, amount, "decimal digits and perhaps K, M or G are");
 }

@@ -18,15 +18,21 @@ void say(struct said *said, const char *format, ...) {
     }
 }
 
-void say_number(struct said *said, size_t number) {
-    char digits[32];
-    int count = snprintf(digits, sizeof digits, "%zu", number);
+struct grouped grouped(uint64_t number) {
+    struct grouped grouped = {0};
+    char digits[24];
+    int count = snprintf(digits, sizeof digits, "%llu", (unsigned long long)number), to = 0;
     for (int i = 0; i < count; i++) {
         if (i > 0 && (count - i) % 3 == 0) {
-            say(said, ",");
+            grouped.text[to++] = ',';
         }
-        say(said, "%c", digits[i]);
+        grouped.text[to++] = digits[i];
     }
+    return grouped;
+}
+
+void say_number(struct said *said, size_t number) {
+    say(said, "%s", grouped(number).text);
 }
 
 void say_count(struct said *said, size_t count, const char *one, const char *many) {

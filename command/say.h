@@ -3,15 +3,17 @@
 #define COMMAND_SAY_H
 
 #include <stddef.h>
+#include <stdint.h>
 
 enum status {
     STATUS_DONE = 0,       /* won, legal, both can be right */
     STATUS_NO = 1,         /* not won, or a move that is not legal */
-    STATUS_REFUSED = 2,    /* a board, a text or a setting is refused */
+    STATUS_REFUSED = 2,    /* a board, a text, a setting or a sheet is refused */
     STATUS_IMPOSSIBLE = 3, /* two answers that cannot both be right */
     STATUS_USAGE = 64,
     STATUS_NO_INPUT = 66,
     STATUS_NO_MEMORY = 71,
+    STATUS_NO_FILE = 73, /* a file cannot be made */
     STATUS_NO_OUTPUT = 74
 };
 
@@ -30,7 +32,11 @@ struct said {
 
 void say(struct said *said, const char *format, ...) SAYS(2, 3);
 
-/* A number with commas: 1,000,000. */
+/* A number with commas, 1,000,000: as a text of its own, and said. */
+struct grouped {
+    char text[32];
+};
+struct grouped grouped(uint64_t number);
 void say_number(struct said *said, size_t number);
 
 /* "1 move", "98 moves". */
