@@ -57,6 +57,17 @@ static void read_line(void) {
     corbelnib_read_line(start, sizeof start, paper, signs, list, sizeof list, &count);
 }
 
+static void questions(void) {
+    uint8_t code;
+    corbelnib_top(board, sizeof board, hand % 9, &code);
+    corbelnib_cell(board, sizeof board, hand % 5, &code);
+    corbelnib_won(board, sizeof board, &code);
+    corbelnib_home(board, sizeof board, hand % 5, &count);
+    corbelnib_most(board, sizeof board, hand % 9, &count);
+}
+
+static void safe(void) { corbelnib_safe(board, sizeof board, after, sizeof after, &count); }
+
 static void season(void) {
     corbelnib_season(hand, hand, 300, 1, nodes, CORBELNIB_NODES(NODES), heap, CORBELNIB_HEAP(NODES), keys,
                      CORBELNIB_KEYS(NODES), costs, CORBELNIB_COSTS(NODES), sheet, CORBELNIB_SHEET);
@@ -94,6 +105,8 @@ static const struct {
     {"write_line", write_line},
     {"read_line", read_line},
     {"add", add},
+    {"questions", questions},
+    {"safe", safe},
 };
 enum { MANY = sizeof CALLS / sizeof CALLS[0] };
 static size_t most[MANY];

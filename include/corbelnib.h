@@ -5,9 +5,10 @@
  * nothing else. Stack, measured on aarch64: corbelnib_judge and corbelnib_season 13 KB, corbelnib_candidates 7 KB, every other function under 3 KB
  * (docs/MEMORY.md).
  *
- * What is lent: a pointer and then the number of elements behind it. A pointer is never NULL, points to as many elements as
- * are told (a length of 0 is taken) and is aligned for its type; no two lent parts of one call overlap, unless both are only
- * read (`const`). This is all that C cannot have checked; every other value of every argument is examined.
+ * What is lent: a pointer and then the number of elements behind it. A pointer points to as many elements as are told and is
+ * aligned for its type; where 0 are told it may be NULL. No two lent parts of one call overlap, unless both are only read
+ * (`const`). Pointers without a number (`size_t *count`) point to one element. This is all that C cannot have checked; every
+ * other value of every argument is examined.
  *
  * A board is CORBELNIB_BOARD (432) bytes: four cells (a card's code, or 255 for none); four foundation counts, clubs,
  * diamonds, hearts, spades; eight column counts; eight columns of room for 52 codes each, the deepest card first, unused
@@ -29,8 +30,18 @@
 #include <stddef.h>
 #include <stdint.h>
 
+/* Of this header, the library and the command. */
+#define CORBELNIB_VERSION "0.6.0"
+
 #ifdef __cplusplus
 extern "C" {
+#endif
+
+/* The library counts in 64 bits. */
+#ifdef __cplusplus
+static_assert(sizeof(size_t) == 8, "corbelnib wants a size_t of 64 bits");
+#else
+_Static_assert(sizeof(size_t) == 8, "corbelnib wants a size_t of 64 bits");
 #endif
 
 /* Sizes in bytes: a board, a move, the least list buffer (200 moves), the least room for a line on paper, for moves that are listed (836
@@ -55,6 +66,46 @@ extern "C" {
 #define CORBELNIB_HEAP(n) ((size_t)(n))
 #define CORBELNIB_KEYS(n) (2 * (size_t)(n))
 #define CORBELNIB_COSTS(n) (2 * (size_t)(n))
+
+/* Bytes of scratch that a node takes, all parts together. */
+#define CORBELNIB_NODE 38
+
+/* The four parts of the scratch. */
+struct corbelnib_scratch {
+    uint32_t *nodes;
+    size_t nodes_length;
+    uint64_t *heap;
+    size_t heap_length;
+    uint64_t *keys;
+    size_t keys_length;
+    uint8_t *costs;
+    size_t costs_length;
+};
+
+/* They are eight arguments of corbelnib_judge and corbelnib_season, in this order. */
+#define CORBELNIB_SCRATCH(s)                                                                                              \
+    (s).nodes, (s).nodes_length, (s).heap, (s).heap_length, (s).keys, (s).keys_length, (s).costs, (s).costs_length
+
+/* How long one block is that has scratch for so many nodes; more than any memory has if that is no size_t. */
+static inline size_t corbelnib_scratch_bytes(size_t nodes) {
+    return nodes > SIZE_MAX / CORBELNIB_NODE ? SIZE_MAX : CORBELNIB_NODE * nodes;
+}
+
+/* Carves one block (from malloc, or an array of uint64_t: aligned to eight bytes) into the parts, for as many nodes as it has
+ * room for: bytes / 38. A NULL or a block that is not aligned has room for none. */
+static inline struct corbelnib_scratch corbelnib_carve(void *block, size_t bytes) {
+    size_t n = block == NULL || (uintptr_t)block % sizeof(uint64_t) != 0 ? 0 : bytes / CORBELNIB_NODE;
+    struct corbelnib_scratch s;
+    s.heap = (uint64_t *)block;
+    s.keys = n == 0 ? s.heap : s.heap + n;
+    s.nodes = n == 0 ? (uint32_t *)block : (uint32_t *)(s.keys + 2 * n);
+    s.costs = n == 0 ? (uint8_t *)block : (uint8_t *)(s.nodes + 3 * n);
+    s.nodes_length = CORBELNIB_NODES(n);
+    s.heap_length = CORBELNIB_HEAP(n);
+    s.keys_length = CORBELNIB_KEYS(n);
+    s.costs_length = CORBELNIB_COSTS(n);
+    return s;
+}
 
 /* Every number that a call hands back. In quotation marks: what a table can show to a player. */
 enum corbelnib_told {
@@ -219,6 +270,27 @@ uint8_t corbelnib_priority(const uint8_t *board, size_t board_length, const uint
  * move) and tells in `*moves` how many there were; bytes beyond stay. Refusals: 12 to 15, then 21 if `after` has fewer than
  * 432 bytes. */
 uint8_t corbelnib_chain(const uint8_t *board, size_t board_length, uint8_t *after, size_t after_length, size_t *moves);
+
+/* Writes the record of the first safe move, which the chain begins with, five bytes, to the start of `record` and tells in `*count` 1; or
+ * tells 0 and writes nothing, if there is none. Played one after the other (corbelnib_move) these are the chain. Refusals: 12 to 15, then
+ * 21 if `record` has fewer than 5 bytes. */
+uint8_t corbelnib_safe(const uint8_t *board, size_t board_length, uint8_t *record, size_t record_length, size_t *count);
+
+/* Tells in `*code` the card on top of a column, 0 to 7, or in a cell, 0 to 3: its code, or 255 for none. Refusals: 12 to 15, then 30 for
+ * a column or cell that is none. */
+uint8_t corbelnib_top(const uint8_t *board, size_t board_length, size_t column, uint8_t *code);
+uint8_t corbelnib_cell(const uint8_t *board, size_t board_length, size_t cell, uint8_t *code);
+
+/* Tells in `*count` how many cards of a suit are home (0 clubs, 1 diamonds, 2 hearts, 3 spades), so that the top card has that value.
+ * Refusals: 12 to 15, then 30 for a suit that is none. */
+uint8_t corbelnib_home(const uint8_t *board, size_t board_length, size_t suit, size_t *count);
+
+/* Tells in `*count` how many cards at most may go to a column at once, by the empty cells and columns alone. Refusals: 12 to 15, then 30
+ * for a column that is none. */
+uint8_t corbelnib_most(const uint8_t *board, size_t board_length, size_t column, size_t *count);
+
+/* Tells in `*won` 1 if all 52 cards are home, else 0. Refusals: 12 to 15. */
+uint8_t corbelnib_won(const uint8_t *board, size_t board_length, uint8_t *won);
 
 /* Writes the seven features of a board to the start of `features`: cards home, moves home at once, blocked low cards,
  * imbalance of the foundations, cells used, empty columns, longest run; elements beyond stay. Refusals: 12 to 15, then 21 if

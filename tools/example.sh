@@ -1,6 +1,6 @@
 #!/bin/sh
 # Holds the C example to the header and to what it has to print. The compiler is ${CC:-cc}, and no warning is let through.
-# tools/example.sh --compile: it and examples/season.c are compiled against include/corbelnib.h; no library is needed.
+# tools/example.sh --compile: it is compiled against include/corbelnib.h; no library is needed.
 # tools/example.sh: it is linked with the library (tools/archive.sh builds it, unless CORBELNIB_ARCHIVE names a folder with it) and run
 # on board S (docs/SCOPE.md) and on refusals.
 set -eu
@@ -8,7 +8,7 @@ cd "$(dirname "$0")/.."
 CFLAGS="-Werror ${CFLAGS:-}"
 export CFLAGS
 if [ "${1:-}" = --compile ]; then
-    ${CC:-cc} -std=c11 -Wall -Wextra -pedantic $CFLAGS -I include -fsyntax-only examples/judge.c examples/season.c
+    ${CC:-cc} -std=c11 -Wall -Wextra -pedantic $CFLAGS -I include -fsyntax-only examples/judge.c
     exit
 fi
 

@@ -5,12 +5,12 @@
 # make a shard. FOLDER gets `settings`, a sheet for each shard in `shards`, `joblog` (when, where and how long each was judged) and at the
 # end `season.sheet`, which is shown.
 # Killed in the middle, in whatever way, it loses at most the shards that were being judged: the same command again goes on. The files
-# are what it goes by: a shard's file takes its name when it is whole (examples/season.c), a shard without one is judged, and so is one
+# are what it goes by: a shard's file takes its name when it is whole (`corbelnib season run`), a shard without one is judged, and so is one
 # that failed or whose file was deleted. Other settings want another FOLDER.
-# Needs a C compiler and GNU parallel (Debian's package parallel), which takes more options from PARALLEL, as -j4 or '--nice 10'.
-# SSHLOGINS names machines, as ':,one,8/two' (parallel's --sshlogin; the colon is this one). Each needs the program at the same place (its
+# Needs make, a C compiler and GNU parallel (Debian's package parallel), which takes more options from PARALLEL, as -j4 or '--nice 10'.
+# SSHLOGINS names machines, as ':,one,8/two' (parallel's --sshlogin; the colon is this one). Each needs the command at the same place (its
 # path is printed), rsync, and parallel unless the number of its cores is told; sheets come back here, and nothing is left there.
-# CORBELNIB_ARCHIVE, if set, is a folder with a libcorbelnib.a that is taken as it is.
+# CORBELNIB_ARCHIVE, if set, is a folder with a libcorbelnib.a that is taken as it is (Makefile).
 set -eu
 root=$(cd "$(dirname "$0")/.." && pwd)
 
@@ -43,14 +43,17 @@ case $(parallel --version 2> /dev/null || true) in
 *) no 69 "GNU parallel is needed (Debian's package parallel)" ;;
 esac
 
-# The program, as examples/season.sh builds it.
-archive=${CORBELNIB_ARCHIVE:-$(sh "$root/tools/archive.sh")}
-archive=$(cd "$archive" && pwd)
-CORBELNIB_ARCHIVE=$archive sh "$root/examples/season.sh" --help > /dev/null
-program=$archive/season
+# The command, built unless it is there.
+if [ -n "${CORBELNIB_ARCHIVE:-}" ]; then
+    archive=$(cd "$CORBELNIB_ARCHIVE" && pwd)
+    make -s -C "$root" CORBELNIB_ARCHIVE="$archive" >&2
+else
+    make -s -C "$root" >&2
+fi
+command=$root/target/command/corbelnib
 
 # Every refusal before anything is begun: the run turned round has no deal (a single one is judged).
-"$program" run "$last" "$first" --budget "$budget" --nodes "$nodes" --quiet > /dev/null
+"$command" season run "$last" "$first" --budget "$budget" --nodes "$nodes" --quiet > /dev/null
 
 mkdir -p "$given/shards" || no 73 "$given cannot be made"
 cd "$given"
@@ -80,14 +83,14 @@ count() { printf '%s' "$1" | grep -c . || true; }
 
 all=$(shards)
 left=$(missing)
-echo "season.sh: $(count "$left") of $(count "$all") shards are to be judged, by $program" >&2
+echo "season.sh: $(count "$left") of $(count "$all") shards are to be judged, by $command" >&2
 if [ -n "$left" ]; then
     set -- --colsep - --joblog +../joblog
     [ -z "${SSHLOGINS:-}" ] || set -- "$@" --sshlogin "$SSHLOGINS" --return "$kind-{1}-{2}.sheet" --cleanup
     # how far it has come: a bar on a terminal, elsewhere a line for each shard that is done
     if [ -t 2 ]; then set -- "$@" --bar; else set -- "$@" -v; fi
     printf '%s\n' "$left" |
-        parallel "$@" -q "$program" run '{1}' '{2}' --budget "$budget" --nodes "$nodes" $option --quiet -o "$kind-{1}-{2}.sheet" >&2 || true
+        parallel "$@" -q "$command" season run '{1}' '{2}' --budget "$budget" --nodes "$nodes" $option --quiet -o "$kind-{1}-{2}.sheet" >&2 || true
     left=$(missing)
     [ -z "$left" ] ||
         no 1 "$(count "$left") of $(count "$all") shards are not done, $(echo "$left" | head -n 1) first: the same command again goes on"
@@ -95,12 +98,12 @@ fi
 
 covers=$first-$last
 [ "$first" -lt "$last" ] || covers=$first
-"$program" add -o ../season.new $(printf "$kind-%s.sheet\n" $all) ||
+"$command" season add -o ../season.new $(printf "$kind-%s.sheet\n" $all) ||
     no 1 'a shard that is refused can be deleted: the same command again judges it anew'
 cd ..
-if ! "$program" show season.new | grep -q "^  deals .*: $covers\$"; then
+if ! "$command" season show season.new | grep -q "^  deals .*: $covers\$"; then
     rm season.new
     no 1 "the sum covers other deals than $covers: a file in $given/shards has others than its name says"
 fi
 mv season.new season.sheet
-"$program" show season.sheet
+"$command" season show season.sheet

@@ -1,10 +1,11 @@
 // What has to come back from each call, with any input at all, by SCOPE.md and the original: what is handed back, or the
 // number of a refusal.
-use crate::codes::{bytes, records, BOARD};
+use crate::codes::{bytes, cell_code, records, BOARD};
 use crate::figures::{self, Given};
+use crate::original::common::card::Suit;
 use crate::original::freecell::board::{FreeCellBoard, FreeCellMove};
 use crate::original::freecell::solver::{self, Judged};
-use crate::refusals::{self, Asked, FEATURES, RECORDS, TOKEN};
+use crate::refusals::{self, Asked, FEATURES, RECORD, RECORDS, TOKEN};
 
 // Bytes, and the number that is told with them.
 pub type Counted = Asked<(Vec<u8>, usize)>;
@@ -77,6 +78,41 @@ pub fn chain(board: &[u8], length: usize) -> Counted {
     let board = refusals::board(board)?;
     let (moves, after) = solver::chain(&board);
     refusals::room((bytes(&after), moves), length, BOARD)
+}
+
+// The record of the first safe move and 1, or nothing and 0.
+pub fn safe(board: &[u8], length: usize) -> Counted {
+    let board = refusals::board(board)?;
+    let steps = Vec::from_iter(solver::first_safe(&board));
+    refusals::room((records(&steps), steps.len()), length, RECORD)
+}
+
+pub fn top(board: &[u8], column: usize) -> Asked<u8> {
+    let board = refusals::board(board)?;
+    let column = refusals::place(column, 8)?;
+    Ok(cell_code(board.top_of_tableau(column)))
+}
+
+pub fn cell(board: &[u8], cell: usize) -> Asked<u8> {
+    let board = refusals::board(board)?;
+    let cell = refusals::place(cell, 4)?;
+    Ok(cell_code(board.free_cells[cell]))
+}
+
+pub fn home(board: &[u8], suit: usize) -> Asked<usize> {
+    let board = refusals::board(board)?;
+    let suit = Suit::ALL[refusals::place(suit, 4)?];
+    Ok(board.foundation_count(suit))
+}
+
+pub fn most(board: &[u8], column: usize) -> Asked<usize> {
+    let board = refusals::board(board)?;
+    let column = refusals::place(column, 8)?;
+    Ok(board.max_movable_cards(column))
+}
+
+pub fn won(board: &[u8]) -> Asked<u8> {
+    refusals::board(board).map(|board| solver::is_win(&board) as u8)
 }
 
 pub fn features(board: &[u8], length: usize) -> Asked<Vec<u64>> {

@@ -169,6 +169,50 @@ pub fn chain(draws: &mut Draws, board: &[u8], length: usize) -> Told {
     counted("chain", came, &asked, &room, &count)
 }
 
+pub fn safe(draws: &mut Draws, board: &[u8], length: usize) -> Told {
+    let mut room = Room::new(draws, length);
+    let mut count = lent::number(draws);
+    let came = ours::safe(board, room.lent(), &mut count.lent()[0]);
+    let asked = answers::safe(board, length);
+    let what = format!("safe with room of {length}");
+    counted(&what, came, &asked, &room, &count)
+}
+
+pub fn top(draws: &mut Draws, board: &[u8], column: usize) -> Told {
+    let asked = answers::top(board, column).map(|code| vec![code]);
+    let mut code = lent::number(draws);
+    let came = ours::top(board, column, &mut code.lent()[0]);
+    told(&format!("top of column {column}"), came, &asked, &code)
+}
+
+pub fn cell(draws: &mut Draws, board: &[u8], cell: usize) -> Told {
+    let asked = answers::cell(board, cell).map(|code| vec![code]);
+    let mut code = lent::number(draws);
+    let came = ours::cell(board, cell, &mut code.lent()[0]);
+    told(&format!("cell {cell}"), came, &asked, &code)
+}
+
+pub fn home(draws: &mut Draws, board: &[u8], suit: usize) -> Told {
+    let asked = answers::home(board, suit).map(|count| vec![count]);
+    let mut count = lent::number(draws);
+    let came = ours::home(board, suit, &mut count.lent()[0]);
+    told(&format!("home of suit {suit}"), came, &asked, &count)
+}
+
+pub fn most(draws: &mut Draws, board: &[u8], column: usize) -> Told {
+    let asked = answers::most(board, column).map(|count| vec![count]);
+    let mut count = lent::number(draws);
+    let came = ours::most(board, column, &mut count.lent()[0]);
+    told(&format!("most to column {column}"), came, &asked, &count)
+}
+
+pub fn won(draws: &mut Draws, board: &[u8]) -> Told {
+    let asked = answers::won(board).map(|won| vec![won]);
+    let mut won = lent::number(draws);
+    let came = ours::won(board, &mut won.lent()[0]);
+    told("won", came, &asked, &won)
+}
+
 pub fn features(draws: &mut Draws, board: &[u8], length: usize) -> Told {
     let mut room = Room::new(draws, length);
     let came = ours::features(board, room.lent());

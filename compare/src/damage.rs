@@ -1,14 +1,14 @@
-// Damaged inputs: boards, images, decks, records, lists, numbers and room, one or more of them wrong, to every function. What
-// must come is told by refusals.rs; what is not refused after all is compared as any other input.
+// Damaged inputs: boards, images, decks, records, lists, numbers, places and room, one or more of them wrong, to every function.
+// What must come is told by refusals.rs; what is not refused after all is compared as any other input.
 use crate::answers::Settings;
 use crate::asks::{self, Told};
 use crate::boards::{self, played, shuffled};
 use crate::codes::{self, counted, image, records, BOARD, COLUMN, EMPTY};
 use crate::draws::Draws;
 use crate::original::common::card::{Card, Suit};
-use crate::refusals::{self, FEATURES, LIST, MOST_NUMBER, MOST_POPS, RECORDS, TOKEN};
+use crate::refusals::{self, FEATURES, LIST, MOST_NUMBER, MOST_POPS, RECORD, RECORDS, TOKEN};
 
-pub const FUNCTIONS: [&str; 16] = [
+pub const FUNCTIONS: [&str; 22] = [
     "examine",
     "read",
     "deal",
@@ -19,6 +19,12 @@ pub const FUNCTIONS: [&str; 16] = [
     "candidates",
     "priority",
     "chain",
+    "safe",
+    "top",
+    "cell",
+    "home",
+    "most",
+    "won",
     "features",
     "scores",
     "signature",
@@ -56,6 +62,7 @@ fn by_board(draws: &mut Draws, name: &str, board: &[u8]) -> Told {
     let kind = draws.one_of(&[0, 1, 2, 3, 4, 5, 6, 7, 255]);
     let records = room(draws, RECORDS);
     let after = room(draws, BOARD);
+    let record = room(draws, RECORD);
     let features = room(draws, FEATURES);
     let text = room(draws, TOKEN);
     match name {
@@ -63,11 +70,25 @@ fn by_board(draws: &mut Draws, name: &str, board: &[u8]) -> Told {
         "moves" => asks::moves(draws, board, kind, records),
         "candidates" => asks::candidates(draws, board, records),
         "chain" => asks::chain(draws, board, after),
+        "safe" => asks::safe(draws, board, record),
+        "won" => asks::won(draws, board),
         "features" => asks::features(draws, board, features),
         "scores" => asks::scores(draws, board),
         "signature" => asks::signature(draws, board),
         "token" => asks::token(draws, board, text),
-        _ => judge(draws, board),
+        "judge" => judge(draws, board),
+        _ => by_place(draws, name, board),
+    }
+}
+
+// The functions that take a board and a place on it.
+fn by_place(draws: &mut Draws, name: &str, board: &[u8]) -> Told {
+    let place = place(draws);
+    match name {
+        "top" => asks::top(draws, board, place),
+        "cell" => asks::cell(draws, board, place),
+        "home" => asks::home(draws, board, place),
+        _ => asks::most(draws, board, place),
     }
 }
 
@@ -149,7 +170,7 @@ fn rubbish(draws: &mut Draws, length: usize) -> Vec<u8> {
 }
 
 // One damage that keeps the length.
-fn damage_board(draws: &mut Draws, bytes: &mut [u8]) {
+pub fn damage_board(draws: &mut Draws, bytes: &mut [u8]) {
     let cell = draws.below(4);
     let column = draws.below(8);
     let row = draws.below((bytes[8 + column] as usize).clamp(1, COLUMN));
@@ -261,6 +282,20 @@ pub fn no_number(draws: &mut Draws, number: usize) -> usize {
         4 => (1 << 32) + number,
         5 => usize::MAX,
         _ => draws.word() as usize,
+    }
+}
+
+// A place of eight or of four, or one that is none: some end as a place does, for who looks at 8 or 32 bits only.
+fn place(draws: &mut Draws) -> usize {
+    let place = draws.below(8);
+    match draws.below(9) {
+        0 => 4,
+        1 => 8,
+        2 => 256 + place,
+        3 => (1 << 32) + place,
+        4 => usize::MAX,
+        5 => draws.word() as usize,
+        _ => place,
     }
 }
 

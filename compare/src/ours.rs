@@ -63,6 +63,34 @@ mod c {
             after_len: usize,
             moves: *mut usize,
         ) -> u8;
+        pub fn corbelnib_safe(
+            board: *const u8,
+            board_len: usize,
+            record: *mut u8,
+            record_len: usize,
+            count: *mut usize,
+        ) -> u8;
+        pub fn corbelnib_top(
+            board: *const u8,
+            board_len: usize,
+            column: usize,
+            code: *mut u8,
+        ) -> u8;
+        pub fn corbelnib_cell(board: *const u8, board_len: usize, cell: usize, code: *mut u8)
+            -> u8;
+        pub fn corbelnib_home(
+            board: *const u8,
+            board_len: usize,
+            suit: usize,
+            count: *mut usize,
+        ) -> u8;
+        pub fn corbelnib_most(
+            board: *const u8,
+            board_len: usize,
+            column: usize,
+            count: *mut usize,
+        ) -> u8;
+        pub fn corbelnib_won(board: *const u8, board_len: usize, won: *mut u8) -> u8;
         pub fn corbelnib_features(
             board: *const u8,
             board_len: usize,
@@ -235,6 +263,38 @@ pub fn chain(board: &[u8], after: &mut [u8], moves: &mut usize) -> u8 {
             moves,
         )
     }
+}
+
+pub fn safe(board: &[u8], record: &mut [u8], count: &mut usize) -> u8 {
+    unsafe {
+        c::corbelnib_safe(
+            board.as_ptr(),
+            board.len(),
+            record.as_mut_ptr(),
+            record.len(),
+            count,
+        )
+    }
+}
+
+pub fn top(board: &[u8], column: usize, code: &mut u8) -> u8 {
+    unsafe { c::corbelnib_top(board.as_ptr(), board.len(), column, code) }
+}
+
+pub fn cell(board: &[u8], cell: usize, code: &mut u8) -> u8 {
+    unsafe { c::corbelnib_cell(board.as_ptr(), board.len(), cell, code) }
+}
+
+pub fn home(board: &[u8], suit: usize, count: &mut usize) -> u8 {
+    unsafe { c::corbelnib_home(board.as_ptr(), board.len(), suit, count) }
+}
+
+pub fn most(board: &[u8], column: usize, count: &mut usize) -> u8 {
+    unsafe { c::corbelnib_most(board.as_ptr(), board.len(), column, count) }
+}
+
+pub fn won(board: &[u8], won: &mut u8) -> u8 {
+    unsafe { c::corbelnib_won(board.as_ptr(), board.len(), won) }
 }
 
 pub fn features(board: &[u8], features: &mut [u64]) -> u8 {

@@ -12,6 +12,7 @@ pub type Asked<T> = Result<T, u8>;
 pub const RECORDS: usize = 4180;
 pub const TOKEN: usize = 32;
 pub const FEATURES: usize = 7;
+pub const RECORD: usize = 5;
 pub const LIST: usize = 1000;
 pub const MOST_POPS: usize = 1_000_000;
 pub const MOST_NUMBER: usize = 32_000;
@@ -129,6 +130,14 @@ pub fn room<T>(given: T, room: usize, least: usize) -> Asked<T> {
         return Err(21);
     }
     Ok(given)
+}
+
+// 30 for a place that is none of so many.
+pub fn place(place: usize, places: usize) -> Asked<usize> {
+    if place >= places {
+        return Err(30);
+    }
+    Ok(place)
 }
 
 // 30 and 33 to 40 for one move: the move and the board after it. The original tells no number, but it has to play exactly what

@@ -4,6 +4,7 @@ use crate::asks::{self, Difference};
 use crate::codes::BOARD;
 use crate::draws::Draws;
 use crate::original::freecell::board::FreeCellBoard;
+use crate::original::freecell::solver;
 use crate::progress;
 use crate::sums::Pair;
 use crate::work::{self, Report, Tally};
@@ -49,6 +50,9 @@ fn on_board(run: &Run, task: usize, tally: &mut Tally) -> Result<(), Report> {
     let seed = draws.word();
     let differs = |board: &FreeCellBoard| plain::compare(&mut Draws::new(seed, 0, 0), board).err();
     tally.count("boards", boards::KINDS[task % 4], 1);
+    let has_safe = solver::first_safe(&board).is_some();
+    tally.count("of them", "with a safe move:", has_safe as usize);
+    tally.count("of them", "won:", solver::is_win(&board) as usize);
     match differs(&board) {
         None => Ok(()),
         Some(found) => {

@@ -4,6 +4,7 @@ pub mod Crossing
 pub mod Handing
 pub mod Listing
 pub mod Papering
+pub mod Tops
 pub mod Telling
 pub mod Judging
 pub mod Seasoning

@@ -9,10 +9,14 @@ ghost use Rattle.base.specs.Put.{over};
 ghost use Rattle.corbelnib.specs.Crossing.{left};
 ghost use Rattle.corbelnib.specs.Boards.{boardLeft, lineLeft};
 ghost use Rattle.corbelnib.specs.Values.{numbersOf};
+ghost use Rattle.corbelnib.specs.Questions.{safeMoves};
+ghost use Rattle.corbelnib.specs.Inner.{Said};
+ghost use Rattle.moves.specs.Written.{written};
 use crate::tell;
 use crate::wire;
 use board::Board;
 use board::Examined;
+use safe::SafeMove;
 use score::Features;
 
 // A board, unless it was refused.
@@ -60,4 +64,21 @@ pub fn features(f: Features, room: &mut [u64])
     room[4] = used;
     room[5] = empty;
     room[6] = longest;
+}
+
+// The record of a safe move, if there is one, and how many there are: one or none.
+pub fn safe_move(first: SafeMove, bytes: &mut [u8], count: &mut usize)
+    requires { ⌜ Said first ⌝ }
+    requires { ⌜ 5 ≤ length (now bytes) ⌝ }
+    ensures { λ r. ⌜ now (bytes .exit) ≡ written (now (bytes .entry)) 0 (safeMoves first) ⌝ }
+    ensures { λ r. ⌜ now (count .exit) ≡ length (safeMoves first) ⌝ }
+{
+    match first {
+        SafeMove::Is(m) => {
+            *count = moves::write(bytes, 0, m);
+        }
+        SafeMove::NoMove => {
+            *count = 0;
+        }
+    }
 }

@@ -8,11 +8,13 @@ ghost use Rattle.corbelnib.specs.Boards.{readLeft, dealLeft, numberLeft,
 ghost use Rattle.corbelnib.specs.Lists.{candidatesLeft, movesLeft, tokenLeft};
 ghost use Rattle.corbelnib.specs.Papers.{lineReadLeft, lineWrittenLeft};
 ghost use Rattle.corbelnib.specs.Values.{signatureLeft, priorityLeft, scoresLeft, featuresLeft};
+ghost use Rattle.corbelnib.specs.Questions.{topLeft, cellLeft, homeLeft, mostLeft, wonLeft, safeLeft};
 ghost use Rattle.corbelnib.specs.Judged.{leaves, judgeLeft};
 ghost use Rattle.corbelnib.specs.Season.{seasonLeft, addLeft};
 ghost use Rattle.season.specs.Season.{lentOf};
 use board::Examined;
 use generate::Way;
+use safe::SafeAnswer;
 use score::FeaturesAnswer;
 
 mod hand;
@@ -256,6 +258,92 @@ pub extern "C" fn corbelnib_signature(board: &[u8], signature: &mut u64) -> u8
         return 12;
     }
     tell::signature(signature::signature_of(wire::board_in(board)), signature)
+}
+
+// The code of the card on top of a column, 255 for none: 12 to 15, 30.
+#[no_mangle]
+pub extern "C" fn corbelnib_top(board: &[u8], column: usize, code: &mut u8) -> u8
+    ensures { λ r. ⌜ left r (now (code .exit)) ≡ topLeft (now (board .entry)) column (now (code .entry)) ⌝ }
+{
+    if board.len() != wire::BYTES {
+        return 12;
+    }
+    let b = wire::board_in(board);
+    let answer = questions::top_of_tableau(b, column);
+    tell::top(answer, code)
+}
+
+// The code of the card in a cell, 255 for none: 12 to 15, 30.
+#[no_mangle]
+pub extern "C" fn corbelnib_cell(board: &[u8], cell: usize, code: &mut u8) -> u8
+    ensures { λ r. ⌜ left r (now (code .exit)) ≡ cellLeft (now (board .entry)) cell (now (code .entry)) ⌝ }
+{
+    if board.len() != wire::BYTES {
+        return 12;
+    }
+    let b = wire::board_in(board);
+    let answer = questions::free_cell(b, cell);
+    tell::top(answer, code)
+}
+
+// How many cards of a suit are home: 12 to 15, 30.
+#[no_mangle]
+pub extern "C" fn corbelnib_home(board: &[u8], suit: usize, count: &mut usize) -> u8
+    ensures { λ r. ⌜ left r (now (count .exit)) ≡ homeLeft (now (board .entry)) suit (now (count .entry)) ⌝ }
+{
+    if board.len() != wire::BYTES {
+        return 12;
+    }
+    tell::count(
+        questions::foundation_count(wire::board_in(board), suit),
+        count,
+    )
+}
+
+// The most cards that may go to a column at once: 12 to 15, 30.
+#[no_mangle]
+pub extern "C" fn corbelnib_most(board: &[u8], column: usize, count: &mut usize) -> u8
+    ensures { λ r. ⌜ left r (now (count .exit)) ≡ mostLeft (now (board .entry)) column (now (count .entry)) ⌝ }
+{
+    if board.len() != wire::BYTES {
+        return 12;
+    }
+    tell::count(
+        rules::max_movable_cards(wire::board_in(board), column),
+        count,
+    )
+}
+
+// Whether the board is won: 12 to 15.
+#[no_mangle]
+pub extern "C" fn corbelnib_won(board: &[u8], won: &mut u8) -> u8
+    ensures { λ r. ⌜ left r (now (won .exit)) ≡ wonLeft (now (board .entry)) (now (won .entry)) ⌝ }
+{
+    if board.len() != wire::BYTES {
+        return 12;
+    }
+    tell::won(questions::is_win(wire::board_in(board)), won)
+}
+
+// The record of the first safe move, and whether there is one: 12 to 15, 21.
+#[no_mangle]
+pub extern "C" fn corbelnib_safe(board: &[u8], bytes: &mut [u8], count: &mut usize) -> u8
+    ensures { λ r. ⌜ left r (now (bytes .exit), now (count .exit)) ≡ safeLeft (now (board .entry)) (now (bytes .entry)) (now (count .entry)) ⌝ }
+{
+    if board.len() != wire::BYTES {
+        return 12;
+    }
+    let b = wire::board_in(board);
+    match safe::first_safe_move(b) {
+        SafeAnswer::First(first) => {
+            if bytes.len() < 5 {
+                return 21;
+            }
+            hand::safe_move(first, bytes, count);
+            0
+        }
+        SafeAnswer::Refused(why) => board::number(why),
+    }
 }
 
 // The seven features: 12 to 15, 21.

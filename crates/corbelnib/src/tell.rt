@@ -1,7 +1,7 @@
 // What an answer is to C: its number, and what it tells behind a pointer; a refusal tells its number alone.
 ghost use mathlib.Core.Path.{_≡_};
 ghost use Rattle.board.specs.Refusal.{examinedTold};
-ghost use Rattle.questions.specs.Told.{countTold};
+ghost use Rattle.questions.specs.Told.{countTold, topTold, wonTold};
 ghost use Rattle.score.specs.Asked.{scoreTold};
 ghost use Rattle.signature.specs.Signed.{signatureTold};
 ghost use Rattle.corbelnib.specs.Crossing.{left, told};
@@ -9,12 +9,17 @@ ghost use Rattle.corbelnib.specs.Judged.{isAnswer};
 ghost use Rattle.corbelnib.specs.Lists.{wayAsked, wayTold};
 ghost use Rattle.corbelnib.specs.Papers.{countLeft};
 ghost use Rattle.corbelnib.specs.Values.{valueLeft};
+ghost use Rattle.corbelnib.specs.Questions.{topCode, codeLeft, yesLeft};
+ghost use Rattle.corbelnib.specs.Inner.{Coded, CodedAnswer};
 ghost use Rattle.paper.specs.Asked.{lineTold};
 use crate::WayAnswer;
 use board::Examined;
 use generate::Way;
 use paper::LineAnswer;
 use questions::CountAnswer;
+use questions::Top;
+use questions::TopAnswer;
+use questions::WonAnswer;
 use score::ScoreAnswer;
 use signature::SignatureAnswer;
 
@@ -68,6 +73,48 @@ pub fn score(answer: ScoreAnswer, to: &mut i64) -> u8
             0
         }
         ScoreAnswer::Refused(why) => board::number(why),
+    }
+}
+
+// The code of what lies on top; 255 for nothing.
+fn code(t: Top) -> u8
+    requires { ⌜ Coded t ⌝ }
+    ensures { λ r. ⌜ r ≡ topCode t ⌝ }
+{
+    match t {
+        Top::Is(card) => card::code_of(card),
+        Top::Empty => 255,
+    }
+}
+
+// What lies on a column or in a cell.
+pub fn top(answer: TopAnswer, to: &mut u8) -> u8
+    requires { ⌜ CodedAnswer answer ⌝ }
+    ensures { λ r. ⌜ left r (now (to .exit)) ≡ codeLeft (topTold answer) (now (to .entry)) ⌝ }
+{
+    match answer {
+        TopAnswer::Shows(t) => {
+            *to = code(t);
+            0
+        }
+        TopAnswer::Refused(why) => board::number(why),
+    }
+}
+
+// Yes or no.
+pub fn won(answer: WonAnswer, to: &mut u8) -> u8
+    ensures { λ r. ⌜ left r (now (to .exit)) ≡ yesLeft (wonTold answer) (now (to .entry)) ⌝ }
+{
+    match answer {
+        WonAnswer::Won => {
+            *to = 1;
+            0
+        }
+        WonAnswer::NotWon => {
+            *to = 0;
+            0
+        }
+        WonAnswer::Refused(why) => board::number(why),
     }
 }
 

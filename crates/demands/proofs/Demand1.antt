@@ -4,7 +4,7 @@ use mathlib.Core.Bool.{Bool, true, false, cond, _||_, or-true}
 use mathlib.Core.List.{List, [], _∷_, _++_}
 use Prim.Native.Nat.{ℕ}
 use borrow.Author.Tests.{eqb-true}
-use lib.Dec.{eqb, leb}
+use lib.Dec.{eqb, leb, ltb}
 use lib.IntN.{ℤ}
 use lib.ListN.{length, getD}
 use Rattle.base.specs.Answer.{Answer, given, refused, unless}
@@ -17,6 +17,10 @@ use Rattle.board.specs.declared.Board.{Board}
 use Rattle.intake.specs.Image.{imageRead}
 use Rattle.intake.specs.Deal.{dealAsked}
 use Rattle.intake.specs.Number.{isNumber, numberAsked}
+use Rattle.questions.specs.Questions.{topOf, cellOf, wonOn, topAsked, cellAsked, foundationAsked, wonAsked}
+use Rattle.questions.specs.declared.Top.{Top}
+use Rattle.rules.specs.Limit.{mostMoved}
+use Rattle.rules.specs.Asked.{mostAsked}
 use Rattle.moves.specs.Record.{moveAsked}
 use Rattle.moves.specs.Written.{listRoom}
 use Rattle.moves.specs.Causes.{causeNumber}
@@ -32,6 +36,8 @@ use Rattle.score.specs.Token.{tokenOf}
 use Rattle.score.specs.Asked.{featuresAsked, tokenRoom}
 use Rattle.score.specs.declared.Features.{Features}
 use Rattle.priority.specs.Asked.{priorityBy, priorityAsked}
+use Rattle.safe.specs.Safe.{firstSafe}
+use Rattle.safe.specs.declared.SafeMove.{SafeMove}
 use Rattle.candidates.specs.Candidates.{candidates as tried}
 use Rattle.paper.specs.Lines.{gives, checked, lineRead, textOf}
 use Rattle.paper.specs.Asked.{readAsked, listAfter, textRoom, movesIn, playedThrough, writtenThrough, writeAsked, textAfter}
@@ -44,8 +50,9 @@ use Rattle.corbelnib.specs.Boards.{boardLeft, readLeft, dealLeft, numberLeft, m
 use Rattle.corbelnib.specs.Lists.{listLeft, candidatesLeft, wayAsked, foundBy, movesLeft, textLeft, tokenLeft}
 use Rattle.corbelnib.specs.Papers.{lineReadLeft, lineWrittenLeft}
 use Rattle.corbelnib.specs.Values.{featureRoom, signatureLeft, priorityLeft, scoresLeft, numbersLeft, featuresLeft}
+use Rattle.corbelnib.specs.Questions.{topLeft, cellLeft, homeLeft, mostLeft, wonLeft, safeLeft}
 use Rattle.corbelnib.specs.Judged.{isAnswer}
-use Rattle.demands.specs.Calls.{Entry, examine, read, deal, number, move, replay, chain, moves, candidates, token, priority, scores, signature, features, capacity, judge, readLine, writeLine, season, add}
+use Rattle.demands.specs.Calls.{Entry, examine, read, deal, number, move, replay, chain, moves, candidates, token, priority, scores, signature, features, capacity, judge, readLine, writeLine, season, add, top, cell, home, most, won, safe}
 use Rattle.demands.specs.Calls.{boundary, Call, promise}
 use Rattle.demands.specs.Demand1.{isIn, boards, ofMoves, hands, refusals, placeOf, Examined, Cleared, Demand1}
 use Rattle.demands.proofs.Refusing.{Refuses, by-test, asked-refuses, fine-refuses, board-refuses, image-refuses, deck-refuses, step-refuses, priority-refuses, in-moves, in-first, in-second}
@@ -229,6 +236,54 @@ write-line-keeps c =
     (write-stops (c .input .0) list lent)
     (line-good (c .input .0) (λ b. unless (isLine list) 31 fine) (λ b. playedThrough (lineFrom b (recordsIn list)) (writtenThrough (movesIn list) (checked (unless (leb textRoom lent) 21 fine) (gives (textOf (shown b) (movesIn list)))))))
 
+-- ---- plain questions
+
+-- about a place of a board: 30 for one that is none
+place-refuses : (ns : List ℕ) → isIn 12 ns ≡ true → isIn 13 ns ≡ true → isIn 14 ns ≡ true → isIn 15 ns ≡ true → isIn 30 ns ≡ true
+    → {A : Type 0} (bytes : List ℕ) (there : Bool) (what : Board → A) → Refuses ns (asked bytes (λ b. after (examined b) (unless there 30 (given (what b)))))
+place-refuses ns a b c d e bytes there what = fine-refuses ns a b c d bytes (λ b. unless there 30 (given (what b))) (λ b. by-test ns there 30 (given (what b)) e tt)
+
+top-keeps : (c : Call top) → Kept top c
+unfolding topLeft topAsked all
+top-keeps c =
+    let what : Board → Top = λ b. topOf (getD (shown b .columns) (c .input .1) []) in
+    crosses refl _ _ (place-refuses (refusals top) refl refl refl refl refl (c .input .0) (ltb (c .input .1) 8) what)
+    (λ x e. (refl, asked-good x (c .input .0) (λ b. unless (ltb (c .input .1) 8) 30 (given (what b))) e .0))
+
+cell-keeps : (c : Call cell) → Kept cell c
+unfolding cellLeft cellAsked all
+cell-keeps c =
+    let what : Board → Top = λ b. cellOf (getD (shown b .cells) (c .input .1) 0) in
+    crosses refl _ _ (place-refuses (refusals cell) refl refl refl refl refl (c .input .0) (ltb (c .input .1) 4) what)
+    (λ x e. (refl, asked-good x (c .input .0) (λ b. unless (ltb (c .input .1) 4) 30 (given (what b))) e .0))
+
+home-keeps : (c : Call home) → Kept home c
+unfolding homeLeft foundationAsked all
+home-keeps c =
+    let what : Board → ℕ = λ b. getD (shown b .foundation) (c .input .1) 0 in
+    crosses refl _ _ (place-refuses (refusals home) refl refl refl refl refl (c .input .0) (ltb (c .input .1) 4) what)
+    (λ x e. (refl, asked-good x (c .input .0) (λ b. unless (ltb (c .input .1) 4) 30 (given (what b))) e .0))
+
+most-keeps : (c : Call most) → Kept most c
+unfolding mostLeft mostAsked all
+most-keeps c =
+    let what : Board → ℕ = λ b. mostMoved (shown b .cells) (shown b .columns) (c .input .1) in
+    crosses refl _ _ (place-refuses (refusals most) refl refl refl refl refl (c .input .0) (ltb (c .input .1) 8) what)
+    (λ x e. (refl, asked-good x (c .input .0) (λ b. unless (ltb (c .input .1) 8) 30 (given (what b))) e .0))
+
+won-keeps : (c : Call won) → Kept won c
+unfolding wonLeft wonAsked all
+won-keeps c =
+    let question : Board → Answer Bool = λ b. given (wonOn (shown b .foundation)) in
+    crosses refl _ _ (fine-refuses (refusals won) refl refl refl refl (c .input) question (λ b. tt)) (λ x e. (refl, asked-good x (c .input) question e .0))
+
+safe-keeps : (c : Call safe) → Kept safe c
+unfolding safeLeft all
+safe-keeps c =
+    let question : Board → Answer SafeMove = λ b. given (firstSafe (shown b)) in
+    room-keeps refl 5 (length (c .before .0)) _ _ refl (fine-refuses (refusals safe) refl refl refl refl (c .input) question (λ b. tt))
+    (λ x e. (refl, asked-good x (c .input) question e .0))
+
 every-keeps : (e : Entry) (c : Call e) → Kept e c
 every-keeps examine c = examine-keeps c
 every-keeps read c = read-keeps c
@@ -250,6 +305,12 @@ every-keeps readLine c = read-line-keeps c
 every-keeps writeLine c = write-line-keeps c
 every-keeps season c = season-keeps c
 every-keeps add c = add-keeps c
+every-keeps top c = top-keeps c
+every-keeps cell c = cell-keeps c
+every-keeps home c = home-keeps c
+every-keeps most c = most-keeps c
+every-keeps won c = won-keeps c
+every-keeps safe c = safe-keeps c
 
 -- ---- the list of them
 
@@ -275,8 +336,14 @@ listed-at readLine = refl
 listed-at writeLine = refl
 listed-at season = refl
 listed-at add = refl
+listed-at top = refl
+listed-at cell = refl
+listed-at home = refl
+listed-at most = refl
+listed-at won = refl
+listed-at safe = refl
 
-listed-all : length boundary ≡ 20
+listed-all : length boundary ≡ 26
 unfolding boundary
 listed-all = refl
 

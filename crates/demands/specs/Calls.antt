@@ -14,6 +14,7 @@ use Rattle.corbelnib.specs.Crossing.{Left, left, told, asked}
 use Rattle.corbelnib.specs.Boards.{readLeft, dealLeft, numberLeft, moveLeft, replayLeft, chainLeft}
 use Rattle.corbelnib.specs.Lists.{movesLeft, candidatesLeft, tokenLeft}
 use Rattle.corbelnib.specs.Papers.{lineReadLeft, lineWrittenLeft}
+use Rattle.corbelnib.specs.Questions.{topLeft, cellLeft, homeLeft, mostLeft, wonLeft, safeLeft}
 use Rattle.corbelnib.specs.Values.{priorityLeft, scoresLeft, signatureLeft, featuresLeft}
 use Rattle.corbelnib.specs.Judged.{flag, judgeLeft}
 use Rattle.corbelnib.specs.Season.{seasonLeft, addLeft}
@@ -42,11 +43,17 @@ pub data Entry : Type 0 where
   writeLine : Entry
   season : Entry
   add : Entry
+  top : Entry
+  cell : Entry
+  home : Entry
+  most : Entry
+  won : Entry
+  safe : Entry
 
 -- all of them (tools/boundary.sh holds this list against the code and the header)
 unfoldable pub boundary : List Entry
 boundary =
-    examine ∷ read ∷ deal ∷ number ∷ move ∷ replay ∷ chain ∷ moves ∷ candidates ∷ token ∷ priority ∷ scores ∷ signature ∷ features ∷ capacity ∷ judge ∷ readLine ∷ writeLine ∷ season ∷ add ∷ []
+    examine ∷ read ∷ deal ∷ number ∷ move ∷ replay ∷ chain ∷ moves ∷ candidates ∷ token ∷ priority ∷ scores ∷ signature ∷ features ∷ capacity ∷ judge ∷ readLine ∷ writeLine ∷ season ∷ add ∷ top ∷ cell ∷ home ∷ most ∷ won ∷ safe ∷ []
 
 -- ---- what goes in, and what is lent
 
@@ -73,7 +80,7 @@ pub record Lent : Type 0 where
   pub pops : ℕ
   pub moves : ℕ
 
--- a board, an image or a deck; a number; a board and a record, a list or a text; a board and a kind; four lengths; a question; a run; a sheet
+-- a board, an image or a deck; a number; a board and a record, a list or a text; a board and a kind or a place; four lengths; a question; a run; a sheet
 abbrev pub In : Entry → Type 0
 In examine = List ℕ
 In read = List ℕ
@@ -95,8 +102,14 @@ In readLine = List ℕ × List ℕ
 In writeLine = List ℕ × List ℕ
 In season = Run
 In add = List ℕ
+In top = List ℕ × ℕ
+In cell = List ℕ × ℕ
+In home = List ℕ × ℕ
+In most = List ℕ × ℕ
+In won = List ℕ
+In safe = List ℕ
 
--- nothing; room; room and the place of a count; places of scores or of a signature; the search's; the season's; the sheet that is added to
+-- nothing; room; room and the place of a count; places of scores, of a signature, of a number; the search's; the season's; the sheet that is added to
 abbrev pub Places : Entry → Type 0
 Places examine = Unit {0}
 Places read = List ℕ
@@ -118,6 +131,12 @@ Places readLine = List ℕ × ℕ
 Places writeLine = List ℕ × ℕ
 Places season = SeasonLent
 Places add = List ℕ
+Places top = ℕ
+Places cell = ℕ
+Places home = ℕ
+Places most = ℕ
+Places won = ℕ
+Places safe = List ℕ × ℕ
 
 -- ---- what each function promises in crates/corbelnib/src/lib.rt: its number and every lent place, from what went in and what lay there
 
@@ -147,6 +166,12 @@ promise readLine i l = lineReadLeft (i .0) (i .1) (l .0) (l .1)
 promise writeLine i l = lineWrittenLeft (i .0) (i .1) (l .0) (l .1)
 promise season r l = seasonLeft (r .first) (r .last) (r .budget) (r .partial) l
 promise add other into = addLeft into other
+promise top i n = topLeft (i .0) (i .1) n
+promise cell i n = cellLeft (i .0) (i .1) n
+promise home i n = homeLeft (i .0) (i .1) n
+promise most i n = mostLeft (i .0) (i .1) n
+promise won board n = wonLeft board n
+promise safe board l = safeLeft board (l .0) (l .1)
 
 -- one call, with its promise
 pub record Call (e : Entry) : Type 0 where

@@ -14,7 +14,7 @@ use Rattle.intake.specs.Deal.{dealAsked}
 use Rattle.intake.specs.Number.{isNumber}
 use Rattle.base.specs.Blank.{blank}
 use Rattle.corbelnib.specs.Judged.{isAnswer}
-use Rattle.demands.specs.Calls.{Entry, examine, read, deal, number, move, replay, chain, moves, candidates, token, priority, scores, signature, features, capacity, judge, readLine, writeLine, season, add}
+use Rattle.demands.specs.Calls.{Entry, examine, read, deal, number, move, replay, chain, moves, candidates, token, priority, scores, signature, features, capacity, judge, readLine, writeLine, season, add, top, cell, home, most, won, safe}
 use Rattle.demands.specs.Calls.{boundary, Call, GoodBoard, capacityIn, settingsBy}
 use Rattle.moves.specs.Written.{listRoom}
 use Rattle.solver.specs.Searched.{mostPops}
@@ -58,6 +58,12 @@ refusals readLine = boards ++ (21 ∷ 31 ∷ [])
 refusals writeLine = boards ++ (31 ∷ 21 ∷ [])
 refusals season = 41 ∷ 20 ∷ 21 ∷ 22 ∷ []
 refusals add = 47 ∷ 45 ∷ 44 ∷ []
+refusals top = boards ++ (30 ∷ [])
+refusals cell = boards ++ (30 ∷ [])
+refusals home = boards ++ (30 ∷ [])
+refusals most = boards ++ (30 ∷ [])
+refusals won = boards
+refusals safe = boards ++ (21 ∷ [])
 
 -- the numbers with which a function hands something back. A replay that meets a bad move (30, 33 to 40) tells its place
 -- and the board before it; a search without node room (23) tells its pops; a line on paper tells the place of a wrong character (42), of a
@@ -83,6 +89,12 @@ hands readLine n = eqb n 0 || isIn n (42 ∷ ofMoves)
 hands writeLine n = eqb n 0 || isIn n (43 ∷ ofMoves)
 hands season n = eqb n 0
 hands add n = eqb n 0
+hands top n = eqb n 0
+hands cell n = eqb n 0
+hands home n = eqb n 0
+hands most n = eqb n 0
+hands won n = eqb n 0
+hands safe n = eqb n 0
 
 -- ---- what a function must have found when it hands something back
 
@@ -137,6 +149,12 @@ Examined readLine c = GoodBoard (c .input .0)
 Examined writeLine c = GoodBoard (c .input .0)
 Examined season c = GoodRun c
 Examined add c = Addable (c .before) (c .input)
+Examined top c = GoodBoard (c .input .0)
+Examined cell c = GoodBoard (c .input .0)
+Examined home c = GoodBoard (c .input .0)
+Examined most c = GoodBoard (c .input .0)
+Examined won c = GoodBoard (c .input)
+Examined safe c = GoodBoard (c .input)
 
 -- ---- how a call ends
 
@@ -159,7 +177,7 @@ pub record ClearedAll (c : Call season) : Type 0 where
   pub keys : c .after .keys ≡ blank (c .before .keys)
   pub costs : c .after .costs ≡ blank (c .before .costs)
 
--- which of the twenty a function is
+-- which of the twenty-six a function is
 abbrev pub placeOf : Entry → ℕ
 placeOf examine = 0
 placeOf read = 1
@@ -181,13 +199,19 @@ placeOf readLine = 16
 placeOf writeLine = 17
 placeOf season = 18
 placeOf add = 19
+placeOf top = 20
+placeOf cell = 21
+placeOf home = 22
+placeOf most = 23
+placeOf won = 24
+placeOf safe = 25
 
 pub record Demand1 : Type 0 where
   -- "Nothing traps, nothing runs on. No board image, deck, move, list, budget or lent memory makes it trap": whatever goes in and
   -- whatever lies in the lent places, there is one end
   pub oneEnd : {e : Entry} (x y : Call e) → x .input ≡ y .input → x .before ≡ y .before → SameEnd x y
-  -- "Every entry point ..": these twenty
-  pub many : length boundary ≡ 20
+  -- "Every entry point ..": these twenty-six
+  pub many : length boundary ≡ 26
   pub all : (e : Entry) → getD boundary (placeOf e) judge ≡ e
   -- ".. examines what it gets": a function that hands something back was given what SCOPE.md asks for
   pub examines : {e : Entry} (c : Call e) → hands e (c .number) ≡ true → Examined e c

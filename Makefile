@@ -1,0 +1,112 @@
+# The library and the command `corbelnib` (README.md).
+#   make                   builds both; the command is target/command/corbelnib, and ./corbelnib is a link to it
+#   make syntax            everything in C compiled with every warning an error, plainly and with the sanitizers; needs no library
+#   make check             the tests of the command, of the C boundary and of docs/FOR-TABLES.md (tests/README.md)
+#   make check-sanitized   the same with the address and undefined-behaviour sanitizers in the command's own code, and 100,000 damaged inputs
+#   make check-masters     true answers two by two, held to demand 3
+#   make check-fc-solve    hands 1 to 100 beside fc-solve (Debian's package freecell-solver-bin)
+#   make install PREFIX=.. command, library, header, pkg-config file and man page (DESTDIR is put before all paths)
+# CORBELNIB_ARCHIVE, if set, is a folder with a libcorbelnib.a that is taken as it is; else tools/archive.sh proves and builds it. What was
+# taken or built lies in target/command and serves until the library's sources are newer.
+
+PREFIX ?= /usr/local
+BINDIR = $(PREFIX)/bin
+LIBDIR = $(PREFIX)/lib
+INCLUDEDIR = $(PREFIX)/include
+MANDIR = $(PREFIX)/share/man
+CC ?= cc
+CFLAGS ?= -O2
+WARNINGS = -Wall -Wextra -Werror -pedantic
+INSTALL = install
+
+build = target/command
+sanitized = target/command-sanitized
+sources = $(sort $(wildcard command/*.c))
+headers = $(wildcard command/*.h) include/corbelnib.h
+# all but main, for the tests that call the command's functions
+functions = $(filter-out command/main.c,$(sources))
+sanitizers = -g -O1 -fsanitize=address,undefined -fno-sanitize-recover=all
+# looking for leaks at each end of a process takes seconds, and a process that ends gives all back
+no_leaks = ASAN_OPTIONS=detect_leaks=0
+compile = $(CC) -std=c11 $(WARNINGS) -I include
+version := $(shell sed -n 's/^\#define CORBELNIB_VERSION "\(.*\)"/\1/p' include/corbelnib.h command/version.h | head -n 1)
+
+archive = $(build)/libcorbelnib.a
+
+all: corbelnib
+
+corbelnib: $(build)/corbelnib
+	ln -sf $(build)/corbelnib corbelnib
+
+# proving takes minutes: only what the library is made of sets it off
+ifdef CORBELNIB_ARCHIVE
+$(archive): $(CORBELNIB_ARCHIVE)/libcorbelnib.a
+	mkdir -p $(build)
+	cp $< $@
+else
+$(archive): tools/archive.sh crates.txt $(shell find crates -name '*.rt' -o -name '*.antt')
+	mkdir -p $(build)
+	folder=$$(sh tools/archive.sh) && cp "$$folder/libcorbelnib.a" $@
+endif
+
+$(build)/corbelnib: $(sources) $(headers) $(archive)
+	mkdir -p $(build)
+	$(compile) $(CFLAGS) $(sources) $(archive) $(LDFLAGS) -o $@
+
+$(sanitized)/corbelnib: $(sources) $(headers) $(archive)
+	mkdir -p $(sanitized)
+	$(compile) $(sanitizers) $(sources) $(archive) -o $@
+
+$(sanitized)/damage: tests/damage.c tests/read_all.c tests/read_all.h $(functions) $(headers) $(archive)
+	mkdir -p $(sanitized)
+	$(compile) $(sanitizers) tests/damage.c tests/read_all.c $(functions) $(archive) -o $@
+
+$(build)/masters: tests/masters.c $(functions) $(headers) $(archive)
+	mkdir -p $(build)
+	$(compile) $(CFLAGS) tests/masters.c $(functions) $(archive) -o $@
+
+syntax:
+	for file in $(sources) tests/*.c examples/*.c; do $(compile) -I command -fsyntax-only $$file && \
+	    $(compile) -I command $(sanitizers) -fsyntax-only $$file || exit 1; done
+
+$(build)/lent: tests/lent.c include/corbelnib.h $(archive)
+	mkdir -p $(build)
+	$(compile) $(CFLAGS) tests/lent.c $(archive) -o $@
+
+$(sanitized)/lent: tests/lent.c include/corbelnib.h $(archive)
+	mkdir -p $(sanitized)
+	$(compile) $(sanitizers) tests/lent.c $(archive) -o $@
+
+check: $(build)/corbelnib $(build)/lent
+	$(build)/lent
+	CORBELNIB_ARCHIVE=$(CURDIR)/$(build) CC="$(CC)" sh tests/for-tables.sh
+	COMMAND=$(CURDIR)/$(build)/corbelnib sh tests/papers.sh
+	COMMAND=$(CURDIR)/$(build)/corbelnib sh tests/run.sh
+
+check-sanitized: $(sanitized)/corbelnib $(sanitized)/damage $(sanitized)/lent
+	$(no_leaks) $(sanitized)/lent
+	$(no_leaks) SANITIZED=yes COMMAND=$(CURDIR)/$(sanitized)/corbelnib sh tests/run.sh
+	$(no_leaks) $(sanitized)/damage 100000 1 tests/seeds/*
+
+check-masters: $(build)/masters
+	$(build)/masters 40 100
+
+check-fc-solve: $(build)/corbelnib
+	COMMAND=$(CURDIR)/$(build)/corbelnib sh tests/fc-solve.sh
+
+install: $(build)/corbelnib
+	$(INSTALL) -d $(DESTDIR)$(BINDIR) $(DESTDIR)$(LIBDIR)/pkgconfig $(DESTDIR)$(INCLUDEDIR) $(DESTDIR)$(MANDIR)/man1
+	$(INSTALL) -m 755 $(build)/corbelnib $(DESTDIR)$(BINDIR)/corbelnib
+	$(INSTALL) -m 644 $(archive) $(DESTDIR)$(LIBDIR)/libcorbelnib.a
+	$(INSTALL) -m 644 include/corbelnib.h $(DESTDIR)$(INCLUDEDIR)/corbelnib.h
+	sed -e 's|@PREFIX@|$(PREFIX)|' -e 's|@VERSION@|$(version)|' command/corbelnib.pc.in > $(DESTDIR)$(LIBDIR)/pkgconfig/corbelnib.pc
+	sed -e 's|@VERSION@|$(version)|' command/corbelnib.1 > $(DESTDIR)$(MANDIR)/man1/corbelnib.1
+
+uninstall:
+	rm -f $(DESTDIR)$(BINDIR)/corbelnib $(DESTDIR)$(LIBDIR)/libcorbelnib.a $(DESTDIR)$(INCLUDEDIR)/corbelnib.h
+	rm -f $(DESTDIR)$(LIBDIR)/pkgconfig/corbelnib.pc $(DESTDIR)$(MANDIR)/man1/corbelnib.1
+
+clean:
+	rm -rf $(build) $(sanitized) corbelnib
+
+.PHONY: all syntax check check-sanitized check-masters check-fc-solve install uninstall clean

@@ -1,0 +1,116 @@
+/* corbelnib judge: one board, judged. */
+#include "amount.h"
+#include "commands.h"
+#include "given.h"
+#include "lend.h"
+#include "options.h"
+#include "report.h"
+#include "show.h"
+
+const char help_judge[] =
+    "usage: corbelnib judge BOARD [--partial] [--budget N] [--memory SIZE] [--moves] [--picture [--ascii] [--colour]] [--json]\n"
+    "\n"
+    "Looks for a winning line. BOARD is a hand's number, 1 to 32,000, or a file (- is standard input) with a board as\n"
+    "fc-solve reads it, an image, or a record of 432 bytes (docs/SCOPE.md), told apart by what they are. A file whose\n"
+    "name is a number is written ./617.\n"
+    "\n"
+    "  --partial      where no win is found, the line to the best board seen\n"
+    "  --budget N     boards that are looked at, at most 1,000,000, which is the default\n"
+    "  --memory SIZE  bytes, or with K, M or G; 512M if it is not given, as a controller has. A board takes 38 bytes\n"
+    "  --moves        the moves in words, one a line\n"
+    "  --picture      the board after each move\n"
+    "  --ascii        letters for suits in pictures, and no colour\n"
+    "  --colour       colour even if the output is no terminal\n"
+    "  --json         everything, for programs\n"
+    "\n"
+    "examples: corbelnib judge 8\n"
+    "          corbelnib judge 8 --moves\n"
+    "          corbelnib deal 617 | corbelnib judge - --budget 20000 --partial\n"
+    "          corbelnib judge hand.img --json > answer.json\n"
+    "\n"
+    "status: 0 won, 1 not won, 2 refused, 64 wrong use, 66 no such file, 71 no memory, 74 the output failed\n";
+
+static const char who[] = "judge";
+
+struct asked {
+    const char *budget, *memory;
+    bool partial, json;
+    struct report report;
+};
+
+static int settle(const struct asked *asked, struct settings *settings) {
+    settings->budget = CORBELNIB_BUDGET;
+    settings->memory = MEMORY_USUAL;
+    settings->partial = asked->partial;
+    int status = option_number(who, "--budget", asked->budget, &settings->budget);
+    if (status == STATUS_DONE) {
+        status = option_memory(who, "--memory", asked->memory, &settings->memory);
+    }
+    settings->capacity = capacity_of(settings->memory);
+    return status;
+}
+
+static int answer(const struct asked *asked, const struct given *given, const struct settings *settings) {
+    struct scratch scratch;
+    struct verdict verdict;
+    if (!lend(&scratch, settings->capacity)) {
+        return complain(STATUS_NO_MEMORY, who, "this machine does not hand out %zu bytes of memory", settings->memory);
+    }
+    judge_with(given->board, settings, &scratch, &verdict);
+    take_back(&scratch);
+    if (!CORBELNIB_IS_ANSWER(verdict.told)) {
+        struct refusal refusal = {0};
+        refuse(&refusal, verdict.told);
+        tell_refusal(who, verdict.told == CORBELNIB_OVER_BUDGET ? "--budget" : "--memory", &refusal, asked->json);
+        return STATUS_REFUSED;
+    }
+    if (asked->json) {
+        report_json(given, settings, &verdict);
+    } else {
+        report_words(given, settings, &verdict, &asked->report);
+    }
+    return verdict.told == CORBELNIB_WON ? STATUS_DONE : STATUS_NO;
+}
+
+static int judge(const struct asked *asked, const char *word) {
+    struct given given;
+    struct settings settings;
+    struct refusal refusal = {0};
+    int status = settle(asked, &settings);
+    if (status != STATUS_DONE) {
+        return status;
+    }
+    status = given_read(word, &given, &refusal);
+    if (status != STATUS_DONE) {
+        tell_refusal(who, given.name, &refusal, asked->json && status == STATUS_REFUSED);
+        return status;
+    }
+    return answer(asked, &given, &settings);
+}
+
+int run_judge(int argc, char **argv) {
+    struct asked asked = {0};
+    bool ascii = false, colour = false;
+    const struct option options[] = {{"--budget", NULL, &asked.budget},
+                                     {"--memory", NULL, &asked.memory},
+                                     {"--partial", &asked.partial, NULL},
+                                     {"--moves", &asked.report.moves, NULL},
+                                     {"--picture", &asked.report.picture, NULL},
+                                     {"--json", &asked.json, NULL},
+                                     {"--ascii", &ascii, NULL},
+                                     {"--colour", &colour, NULL},
+                                     {0}};
+    struct wordlist words;
+    int status = options_part(who, argc, argv, options, 1, &words);
+    if (status != STATUS_DONE) {
+        return status;
+    }
+    if (words.count == 0) {
+        return wrong_use(who, "a board is expected: a hand's number, a file, or - for standard input");
+    }
+    if (asked.json && (asked.report.moves || asked.report.picture)) {
+        return wrong_use(who, "--json tells all there is; --moves and --picture do not go with it");
+    }
+    asked.report.pen = pen_of(ascii, colour);
+    return judge(&asked, words.word[0]);
+}

@@ -1,0 +1,24 @@
+/* An answer of the judge, for readers and for programs. */
+#ifndef COMMAND_REPORT_H
+#define COMMAND_REPORT_H
+
+#include <stdbool.h>
+
+#include "given.h"
+#include "lend.h"
+#include "show.h"
+
+/* What a reader wants to see beside the answer and its line. */
+struct report {
+    bool moves, picture;
+    struct pen pen;
+};
+
+void report_words(const struct given *given, const struct settings *settings, const struct verdict *verdict,
+                  const struct report *report);
+void report_json(const struct given *given, const struct settings *settings, const struct verdict *verdict);
+
+/* Whether an answer brings a list. */
+bool brings_list(uint8_t answer);
+
+#endif

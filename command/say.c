@@ -1,0 +1,60 @@
+#include "say.h"
+
+#include <stdarg.h>
+#include <stdbool.h>
+#include <stdio.h>
+
+/* No more of a wrong word is repeated than shows which one it is. */
+#define QUOTED_MOST 24
+
+void say(struct said *said, const char *format, ...) {
+    size_t room = SAID_MOST - said->length;
+    va_list words;
+    va_start(words, format);
+    int wanted = vsnprintf(said->text + said->length, room, format, words);
+    va_end(words);
+    if (wanted > 0) {
+        said->length += (size_t)wanted < room ? (size_t)wanted : room - 1;
+    }
+}
+
+struct grouped grouped(uint64_t number) {
+    struct grouped grouped = {0};
+    char digits[24];
+    int count = snprintf(digits, sizeof digits, "%llu", (unsigned long long)number), to = 0;
+    for (int i = 0; i < count; i++) {
+        if (i > 0 && (count - i) % 3 == 0) {
+            grouped.text[to++] = ',';
+        }
+        grouped.text[to++] = digits[i];
+    }
+    return grouped;
+}
+
+void say_number(struct said *said, size_t number) {
+    say(said, "%s", grouped(number).text);
+}
+
+void say_count(struct said *said, size_t count, const char *one, const char *many) {
+    say_number(said, count);
+    say(said, " %s", count == 1 ? one : many);
+}
+
+void say_quoted(struct said *said, const unsigned char *word, size_t length) {
+    say(said, "\"");
+    for (size_t i = 0; i < length && i < QUOTED_MOST; i++) {
+        bool plain = word[i] >= ' ' && word[i] <= '~';
+        say(said, plain ? "%c" : "\\x%02x", word[i]);
+    }
+    say(said, length > QUOTED_MOST ? "..\"" : "\"");
+}
+
+int complain(int status, const char *who, const char *format, ...) {
+    fprintf(stderr, "corbelnib%s%s: ", who ? " " : "", who ? who : "");
+    va_list words;
+    va_start(words, format);
+    vfprintf(stderr, format, words);
+    va_end(words);
+    fputc('\n', stderr);
+    return status;
+}

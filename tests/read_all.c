@@ -1,0 +1,86 @@
+#include "read_all.h"
+
+#include <stdio.h>
+#include <stdlib.h>
+#include <string.h>
+
+#include "../command/answer.h"
+#include "../command/demand.h"
+#include "../command/given.h"
+#include "../command/input.h"
+#include "../command/json.h"
+#include "../command/line.h"
+
+#define HAND 8
+
+static void hold(bool held, const char *what) {
+    if (!held) {
+        fprintf(stderr, "%s\n", what);
+        abort();
+    }
+}
+
+static void read_board(const uint8_t *bytes, size_t length, struct accepted *accepted) {
+    struct given given = {.name = "input"};
+    struct refusal refusal = {.number = NO_REFUSAL};
+    if (given_bytes(bytes, length, &given, &refusal)) {
+        accepted->boards++;
+        hold(corbelnib_examine(given.board, sizeof given.board) == 0, "a board that is none was accepted");
+    } else {
+        hold(refusal.words.length > 0, "a board was refused without a word");
+        hold(refusal.words.length + 1 < SAID_MOST, "the words of a refusal were cut off");
+    }
+}
+
+static bool played_right(const uint8_t *board, const struct played *played) {
+    uint8_t last[CORBELNIB_BOARD];
+    size_t count = 0;
+    uint8_t told = corbelnib_replay(board, CORBELNIB_BOARD, played->list, CORBELNIB_MOVE * played->moves, last, sizeof last, &count);
+    return told == 0 && count == played->moves && memcmp(last, played->last, sizeof last) == 0 &&
+           (played->told == 0) == (played->bad.length == 0);
+}
+
+static void read_moves(const uint8_t *bytes, size_t length, struct accepted *accepted) {
+    uint8_t board[CORBELNIB_BOARD];
+    struct played played;
+    struct refusal refusal = {.number = NO_REFUSAL};
+    corbelnib_number(HAND, board, sizeof board);
+    if (line_play(board, bytes, length, &played, &refusal)) {
+        accepted->lines++;
+        hold(played_right(board, &played), "a line was played wrongly");
+    } else {
+        hold(refusal.words.length > 0, "a line was refused without a word");
+    }
+    memset(&played, 0, sizeof played);
+    memset(&refusal, 0, sizeof refusal);
+    if (records_play(board, bytes, length, &played, &refusal)) {
+        accepted->records++;
+        hold(played_right(board, &played), "records were played wrongly");
+    } else {
+        hold(refusal.words.length > 0, "records were refused without a word");
+    }
+}
+
+static void read_answer(const uint8_t *bytes, size_t length, struct accepted *accepted) {
+    struct json_tree tree;
+    struct said why = {0};
+    struct answer answer = {0};
+    if (json_read(bytes, length, &tree, &why) && answer_read(tree.values, &answer, &why) && answer_check(tree.values, &answer, &why)) {
+        accepted->answers++;
+        hold(demand_allows(&answer, &answer, &why), "an answer disagrees with itself");
+    } else {
+        hold(why.length > 0, "an answer was refused without a word");
+    }
+    json_free(&tree);
+}
+
+void read_all(const uint8_t *bytes, size_t length, struct accepted *accepted) {
+    accepted->inputs++;
+    if (length <= INPUT_MOST) {
+        read_board(bytes, length, accepted);
+        read_moves(bytes, length, accepted);
+    }
+    if (length <= ANSWER_MOST) {
+        read_answer(bytes, length, accepted);
+    }
+}
