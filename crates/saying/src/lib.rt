@@ -1,5 +1,6 @@
 // What programs write of lent memory: labels, numbers, how much of it is not zero, the words of a sheet.
 ghost use Prim.Native.Nat.{_≤_};
+ghost use lib.ListN.{length};
 
 pub fn text(s: &[u8]) {
     io::write_all(1, s);
@@ -44,13 +45,8 @@ pub fn dirty_words(room: &[u32]) -> usize {
 }
 
 pub fn dirty_longs(room: &[u64]) -> usize {
-    let mut n = 0;
-    let mut k = 0;
-    while k < room.len() {
-        n += one_if(room[k] != 0);
-        k += 1;
-    }
-    n
+    let zeros = equal_longs(room, 0);
+    room.len() - zeros
 }
 
 pub fn dirty_bytes(room: &[u8]) -> usize {
@@ -64,7 +60,9 @@ pub fn dirty_bytes(room: &[u8]) -> usize {
 }
 
 // How many words hold a value.
-pub fn equal_longs(room: &[u64], value: u64) -> usize {
+pub fn equal_longs(room: &[u64], value: u64) -> usize
+    ensures { λ r. ⌜ r ≤ length (now (room .entry)) ⌝ }
+{
     let mut n = 0;
     let mut k = 0;
     while k < room.len() {

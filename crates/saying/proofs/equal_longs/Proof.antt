@@ -6,7 +6,7 @@ use Rattle.saying.proofs.equal_longs.Statement.{statement}
 use Rattle.saying.proofs.equal_longs.Tie as tie
 
 abbrev Inv-loop : tie.InvT-loop
-Inv-loop room value n₀ k₀ n k = n ≤ k
+Inv-loop room value n₀ k₀ n k = (n ≤ k) × (k ≤ length room)
 
 abbrev μ-loop : tie.MeasureT-loop
 μ-loop room value n₀ k₀ n k = length room - k
