@@ -6,6 +6,9 @@ mod codes;
 #[path = "../../compare/src/draws.rs"]
 #[allow(dead_code)]
 mod draws;
+#[path = "../../compare/src/figures.rs"]
+#[allow(dead_code)]
+mod figures;
 #[path = "../../compare/src/gauge.rs"]
 mod gauge;
 mod heap;
