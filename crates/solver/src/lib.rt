@@ -98,7 +98,7 @@ fn refused(why: Refusal) -> Judged
     }
 }
 
-// An accepted search; the cost bytes are all zero after it, the other scratch is left as the search leaves it.
+// An accepted search, which clears the cost bytes first; the scratch is left as the search leaves it, for the caller to clear.
 pub fn judge_at(
     b: Board,
     budget: usize,
