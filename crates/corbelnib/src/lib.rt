@@ -443,6 +443,6 @@ pub extern "C" fn corbelnib_season(
 pub extern "C" fn corbelnib_add(into: &mut [u64], other: &[u64]) -> u8
     ensures { λ r. ⌜ left r (now (into .exit)) ≡ addLeft (now (into .entry)) (now (other .entry)) ⌝ }
 {
-    let said = sheets::total::add(into, other);
+    let said = totals::add(into, other);
     tell::verdict(said)
 }
