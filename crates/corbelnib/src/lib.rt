@@ -194,7 +194,7 @@ pub extern "C" fn corbelnib_moves(
     let WayAnswer::Is(way) = tell::way_of(kind) else {
         return 30;
     };
-    tell::count(generate::find(b, way, records), count)
+    tell::count(generators::find(b, way, records), count)
 }
 
 // The records of the candidates in order, and their number: 12 to 15, 21.
@@ -206,7 +206,7 @@ pub extern "C" fn corbelnib_candidates(board: &[u8], records: &mut [u8], count: 
         return 12;
     }
     tell::count(
-        candidates::candidates_of(wire::board_in(board), records),
+        ordered::candidates_of(wire::board_in(board), records),
         count,
     )
 }

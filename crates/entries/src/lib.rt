@@ -97,7 +97,7 @@ pub fn note(sheet: &mut [u64], n: usize, answer: u8, pops: usize, moves: usize)
     let said = sheets::ANSWERS + which;
     raise(sheet, said, 1);
     let count = pops as u64;
-    raise(sheet, sheets::POPS, 0);
+    raise(sheet, sheets::POPS, count);
     let place = n - 1;
     let word = place / 64;
     let rest = place % 64;
