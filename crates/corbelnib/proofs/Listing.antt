@@ -15,7 +15,7 @@ use Rattle.questions.specs.declared.CountAnswer.{CountAnswer}
 use Rattle.moves.specs.declared.Move.{Move}
 use Rattle.generate.specs.Asked as generate
 use Rattle.score.specs.Asked as score
-use Rattle.score.specs.Features.{featuresOf}
+use Rattle.features.specs.Features.{featuresOf}
 use Rattle.score.specs.Token.{tokenOf}
 use Rattle.corbelnib.specs.Crossing.{Left, left, crossed, within}
 use Rattle.corbelnib.specs.Lists.{listLeft, wayAsked, textLeft}

@@ -10,10 +10,10 @@ use Rattle.board.specs.Verdict.{Verdict, after}
 use Rattle.board.specs.Record.{examined, shown}
 use Rattle.board.specs.declared.Board.{Board}
 use Rattle.score.specs.Scores.{heuristic, progress}
-use Rattle.score.specs.Features.{featuresOf}
+use Rattle.features.specs.Features.{featuresOf}
 use Rattle.base.specs.Put.{over}
 use Rattle.score.specs.Asked.{featuresAsked, heuristicAsked, progressAsked}
-use Rattle.score.specs.declared.Features.{Features}
+use Rattle.features.specs.declared.Features.{Features}
 use Rattle.corbelnib.specs.Crossing.{Left, left, crossed}
 use Rattle.corbelnib.specs.Values.{valueLeft, numbersOf, numbersLeft}
 use Rattle.corbelnib.proofs.Crossing.{no-room, some-room}

@@ -14,7 +14,7 @@ use Rattle.moves.specs.Written.{written}
 use Rattle.generate.specs.Asked.{recordRoom}
 use Rattle.generate.specs.declared.Way.{Way}
 use Rattle.generate.specs.declared.Way.the-variants.{ColumnToColumn, ColumnToHome, ColumnToCell, CellToColumn, CellToHome, HomeToColumn}
-use Rattle.score.specs.Features.{featuresOf}
+use Rattle.features.specs.Features.{featuresOf}
 use Rattle.score.specs.Token.{tokenOf}
 use Rattle.base.specs.Put.{over}
 use Rattle.score.specs.Asked.{tokenRoom}

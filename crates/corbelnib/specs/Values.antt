@@ -9,7 +9,7 @@ use Rattle.priority.specs.Asked.{priorityAsked}
 use Rattle.score.specs.Scores.{heuristic, progress}
 use Rattle.base.specs.Put.{over}
 use Rattle.score.specs.Asked.{featuresAsked}
-use Rattle.score.specs.declared.Features.{Features}
+use Rattle.features.specs.declared.Features.{Features}
 use Rattle.corbelnib.specs.Crossing.{Left, left, crossed, asked, within}
 
 -- one number; behind the pointer of a refusal stays what was there

@@ -16,8 +16,8 @@ use crate::tell;
 use crate::wire;
 use board::Board;
 use board::Examined;
+use features::Features;
 use safe::SafeMove;
-use score::Features;
 
 // A board, unless it was refused.
 pub fn board(said: Examined, b: Board, room: &mut [u8]) -> u8

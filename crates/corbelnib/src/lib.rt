@@ -194,7 +194,7 @@ pub extern "C" fn corbelnib_moves(
     let WayAnswer::Is(way) = tell::way_of(kind) else {
         return 30;
     };
-    tell::count(generate::find(b, way, records), count)
+    tell::count(generators::find(b, way, records), count)
 }
 
 // The records of the candidates in order, and their number: 12 to 15, 21.
@@ -206,7 +206,7 @@ pub extern "C" fn corbelnib_candidates(board: &[u8], records: &mut [u8], count: 
         return 12;
     }
     tell::count(
-        candidates::candidates_of(wire::board_in(board), records),
+        ordered::candidates_of(wire::board_in(board), records),
         count,
     )
 }
@@ -443,6 +443,6 @@ pub extern "C" fn corbelnib_season(
 pub extern "C" fn corbelnib_add(into: &mut [u64], other: &[u64]) -> u8
     ensures { λ r. ⌜ left r (now (into .exit)) ≡ addLeft (now (into .entry)) (now (other .entry)) ⌝ }
 {
-    let said = sheets::total::add(into, other);
+    let said = totals::add(into, other);
     tell::verdict(said)
 }

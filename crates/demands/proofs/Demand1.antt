@@ -31,10 +31,10 @@ use Rattle.generate.specs.Asked.{recordRoom}
 use Rattle.generate.specs.declared.Way.{Way}
 use Rattle.generate.specs.declared.Way.the-variants.{ColumnToColumn, ColumnToHome, ColumnToCell, CellToColumn, CellToHome, HomeToColumn}
 use Rattle.signature.specs.Signed.{signatureOf, signatureAsked}
-use Rattle.score.specs.Features.{featuresOf}
+use Rattle.features.specs.Features.{featuresOf}
 use Rattle.score.specs.Token.{tokenOf}
 use Rattle.score.specs.Asked.{featuresAsked, tokenRoom}
-use Rattle.score.specs.declared.Features.{Features}
+use Rattle.features.specs.declared.Features.{Features}
 use Rattle.priority.specs.Asked.{priorityBy, priorityAsked}
 use Rattle.safe.specs.Safe.{firstSafe}
 use Rattle.safe.specs.declared.SafeMove.{SafeMove}

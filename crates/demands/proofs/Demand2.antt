@@ -24,10 +24,10 @@ use Rattle.generate.specs.Asked.{recordRoom}
 use Rattle.generate.specs.declared.Way.{Way}
 use Rattle.signature.specs.Fnv.{fnv}
 use Rattle.signature.specs.Signed.{signatureOf, signatureAsked, columnHashes}
-use Rattle.score.specs.Features.{featuresOf}
+use Rattle.features.specs.Features.{featuresOf}
 use Rattle.score.specs.Scores.{heuristic, progress}
 use Rattle.score.specs.Asked.{featuresAsked}
-use Rattle.score.specs.declared.Features.{Features}
+use Rattle.features.specs.declared.Features.{Features}
 use Rattle.candidates.specs.Candidates.{candidates as tried}
 use Rattle.solver.proofs.Calls.{answered-accepted, gives}
 use Rattle.corbelnib.specs.Crossing.{Left, left, crossed}

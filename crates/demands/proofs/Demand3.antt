@@ -14,7 +14,7 @@ use Rattle.base.proofs.Words.{not-so}
 use Rattle.board.specs.Table.{Table}
 use Rattle.moves.specs.declared.Move.{Move}
 use Rattle.moves.specs.Written.{bytesOf}
-use Rattle.score.specs.Features.{featuresOf}
+use Rattle.features.specs.Features.{featuresOf}
 use Rattle.score.specs.Scores.{progress}
 use Rattle.search.specs.Freecell.{freecell, judge as search-of}
 use Rattle.search.specs.Solve.{Answer}

@@ -21,7 +21,7 @@ use Rattle.generate.specs.Asked.{recordRoom}
 use Rattle.generate.specs.declared.Way.{Way}
 use Rattle.signature.specs.Fnv.{fnv}
 use Rattle.signature.specs.Signed.{signatureOf, columnHashes}
-use Rattle.score.specs.Features.{featuresOf}
+use Rattle.features.specs.Features.{featuresOf}
 use Rattle.score.specs.Scores.{heuristic, progress}
 use Rattle.candidates.specs.Candidates.{candidates as tried}
 use Rattle.search.specs.Solve.{Answer}

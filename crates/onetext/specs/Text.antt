@@ -11,7 +11,7 @@ use Rattle.board.specs.declared.Board.{Board}
 use Rattle.intake.specs.Image.{imageRead}
 use Rattle.moves.specs.Record.{recordOf}
 use Rattle.moves.specs.declared.Move.{Move}
-use Rattle.score.specs.Features.{featuresOf}
+use Rattle.features.specs.Features.{featuresOf}
 use Rattle.score.specs.Token.{decimal, tokenOf}
 use Rattle.search.specs.Freecell.{freecell, judge}
 use Rattle.search.specs.Solve as solve

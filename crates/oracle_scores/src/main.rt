@@ -231,7 +231,7 @@ fn records(b: Board, room: &[u8], n: usize) {
 // How many candidates, how many bytes of the room after their records are as they were; then the candidates in order.
 fn candidates(b: Board) {
     let mut out = [MARK; 4190];
-    match candidates::candidates_of(b, &mut out) {
+    match ordered::candidates_of(b, &mut out) {
         CountAnswer::Count(n) => {
             number(n);
             let written = n % 838 * 5;

@@ -11,9 +11,9 @@ use Rattle.frontier.specs.Heap as frontier
 use Rattle.frontier.specs.Packing.{packed}
 use Rattle.costs.specs.Promises.{Vacant, Stores}
 use Rattle.signature.specs.Signed.{signatureOf}
-use Rattle.score.specs.Features.{featuresOf}
+use Rattle.features.specs.Features.{featuresOf}
 use Rattle.score.specs.Scores.{heuristicKey, progressKey}
-use Rattle.score.specs.declared.Features.{Features}
+use Rattle.features.specs.declared.Features.{Features}
 use Rattle.nodes.specs.Step as nodes
 use Rattle.memory.specs.declared.Room.{Room}
 use Rattle.memory.specs.Memory.{Memory, lent}

@@ -44,12 +44,7 @@ pub fn seed(
     requires { ⌜ Blank room (lent (now nodes) (now heap) (now keys) (now costs)) ⌝ }
     ensures { λ r. ⌜ Seeds root room (lent (now (nodes .exit)) (now (heap .exit)) (now (keys .exit)) (now (costs .exit))) r ⌝ }
 {
-    let f = score::measure::compute_features(
-        &root.cells,
-        &root.foundation,
-        &root.counts,
-        &root.tableau,
-    );
+    let f = features::compute_features(&root.cells, &root.foundation, &root.counts, &root.tableau);
     let hope = score::scores::heuristic_key(f);
     let key = signature::signature_at(&root.cells, &root.foundation, &root.counts, &root.tableau);
     let slot = first_slot(keys, costs, room.entries, key);

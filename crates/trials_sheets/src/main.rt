@@ -51,7 +51,7 @@ fn number_of(said: Examined) -> u8 {
 }
 
 fn added(label: &[u8], into: &mut [u64], other: &[u64]) {
-    let said = sheets::total::add(into, other);
+    let said = totals::add(into, other);
     saying::text(label);
     saying::byte(number_of(said));
     saying::sheet(into, 0);

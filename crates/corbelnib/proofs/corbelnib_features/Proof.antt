@@ -3,7 +3,7 @@ use mathlib.Core.Path.{sym, ap, _∙_}
 use Prim.Native.Nat.{ℕ}
 use Rattle.base.specs.Answer.{Answer}
 use Rattle.score.specs.Asked.{featuresAsked, featuresTold}
-use Rattle.score.specs.declared.Features.{Features}
+use Rattle.features.specs.declared.Features.{Features}
 use Rattle.corbelnib.specs.Crossing.{left}
 use Rattle.corbelnib.specs.Values.{numbersLeft, featuresLeft}
 use Rattle.corbelnib.proofs.Crossing.{no-board, a-board}

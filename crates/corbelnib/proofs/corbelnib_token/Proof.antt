@@ -3,7 +3,7 @@ use mathlib.Core.Path.{_∙_}
 use Rattle.base.specs.Answer.{given}
 use Rattle.board.specs.Verdict.{after}
 use Rattle.board.specs.Record.{examined, shown}
-use Rattle.score.specs.Features.{featuresOf}
+use Rattle.features.specs.Features.{featuresOf}
 use Rattle.score.specs.Token.{tokenOf}
 use Rattle.corbelnib.specs.Lists.{textLeft, tokenLeft}
 use Rattle.corbelnib.proofs.Crossing.{no-board, a-board}
