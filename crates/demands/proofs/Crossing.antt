@@ -17,9 +17,9 @@ use Rattle.board.specs.Record.{examined, tableauRoom}
 use Rattle.board.specs.Inner.{Sized}
 use Rattle.board.specs.declared.Board.{Board}
 use Rattle.board.proofs.Fair.{accepted-fair, fair-accepted}
-use Rattle.corbelnib.specs.Wire.{boardRoom, boardIn}
-use Rattle.corbelnib.specs.Crossing.{Left, left, crossed, asked, within}
-use Rattle.demands.specs.Calls.{Entry, Call, promise, GoodBoard}
+use Rattle.crossing.specs.Wire.{boardRoom, boardIn}
+use Rattle.crossing.specs.Crossing.{Left, left, crossed, asked, within}
+use Rattle.corbelnib.specs.Calls.{Entry, Call, promise, GoodBoard}
 use Rattle.demands.specs.Demand1.{isIn, hands, refusals, Examined}
 use Rattle.demands.proofs.Refusing.{Refuses, by-room}
 

@@ -44,16 +44,16 @@ use Rattle.paper.specs.Asked.{readAsked, listAfter, textRoom, movesIn, playedTh
 use Rattle.solver.specs.Told as solver
 use Rattle.search.specs.Claims.{bringsList}
 use Rattle.solver.proofs.Calls.{answer-clears, T1-none}
-use Rattle.corbelnib.specs.Wire.{boardRoom, boardIn}
-use Rattle.corbelnib.specs.Crossing.{left, told, asked}
-use Rattle.corbelnib.specs.Boards.{boardLeft, readLeft, dealLeft, numberLeft, moveLeft, lineLeft, replayLeft, chained, chainLeft}
-use Rattle.corbelnib.specs.Lists.{listLeft, candidatesLeft, wayAsked, foundBy, movesLeft, textLeft, tokenLeft}
-use Rattle.corbelnib.specs.Papers.{lineReadLeft, lineWrittenLeft}
-use Rattle.corbelnib.specs.Values.{featureRoom, signatureLeft, priorityLeft, scoresLeft, numbersLeft, featuresLeft}
-use Rattle.corbelnib.specs.Questions.{topLeft, cellLeft, homeLeft, mostLeft, wonLeft, safeLeft}
-use Rattle.corbelnib.specs.Judged.{isAnswer}
-use Rattle.demands.specs.Calls.{Entry, examine, read, deal, number, move, replay, chain, moves, candidates, token, priority, scores, signature, features, capacity, judge, readLine, writeLine, season, add, top, cell, home, most, won, safe}
-use Rattle.demands.specs.Calls.{boundary, Call, promise}
+use Rattle.crossing.specs.Wire.{boardRoom, boardIn}
+use Rattle.crossing.specs.Crossing.{left, told, asked}
+use Rattle.crossing.specs.Boards.{boardLeft, readLeft, dealLeft, numberLeft, moveLeft, lineLeft, replayLeft, chained, chainLeft}
+use Rattle.crossing.specs.Lists.{listLeft, candidatesLeft, wayAsked, foundBy, movesLeft, textLeft, tokenLeft}
+use Rattle.crossing.specs.Papers.{lineReadLeft, lineWrittenLeft}
+use Rattle.crossing.specs.Values.{featureRoom, signatureLeft, priorityLeft, scoresLeft, numbersLeft, featuresLeft}
+use Rattle.crossing.specs.Questions.{topLeft, cellLeft, homeLeft, mostLeft, wonLeft, safeLeft}
+use Rattle.crossing.specs.Numbers.{isAnswer}
+use Rattle.corbelnib.specs.Calls.{Entry, examine, read, deal, number, move, replay, chain, moves, candidates, token, priority, scores, signature, features, capacity, judge, readLine, writeLine, season, add, top, cell, home, most, won, safe}
+use Rattle.corbelnib.specs.Calls.{boundary, In, Places, Call, promise}
 use Rattle.demands.specs.Demand1.{isIn, boards, ofMoves, hands, refusals, placeOf, Examined, Cleared, Demand1}
 use Rattle.demands.proofs.Refusing.{Refuses, by-test, asked-refuses, fine-refuses, board-refuses, image-refuses, deck-refuses, step-refuses, priority-refuses, in-moves, in-first, in-second}
 use Rattle.demands.proofs.Crossing.{Keeps, hands-back, refuses, crosses, room-keeps, good-board, asked-good, kept}
@@ -362,12 +362,17 @@ module _ (c : Call judge) (a : isAnswer (c .number) ≡ true) where
       let n = same-number c (c .input .board) refl a in
       T1-none (searching c (c .input .board) refl a) (ap bringsList (n ∙ e)) .same
 
+-- a call that keeps its promise, for whatever goes in and lies there
+abbrev called : {e : Entry} (i : In e) (b : Places e) → Call e
+called {e} i b = record { input = i; before = b; number = promise e i b .number; after = promise e i b .places; keeps = refl }
+
 same-end : {e : Entry} (x y : Call e) → x .input ≡ y .input → x .before ≡ y .before → left (x .number) (x .after) ≡ left (y .number) (y .after)
 same-end {e} x y p q = x .keeps ∙ ap₂ (promise e) p q ∙ sym (y .keeps)
 
 pub demand1 : Demand1
 demand1 =
     record {
+      someEnd = λ i b. (called i b, (refl, refl));
       oneEnd = λ x y p q. let s = same-end x y p q in record { number = ap (λ l. l .number) s; after = ap (λ l. l .places) s };
       many = listed-all;
       all = listed-at;

@@ -30,11 +30,11 @@ use Rattle.score.specs.Asked.{featuresAsked}
 use Rattle.features.specs.declared.Features.{Features}
 use Rattle.candidates.specs.Candidates.{candidates as tried}
 use Rattle.solver.proofs.Calls.{answered-accepted, gives}
-use Rattle.corbelnib.specs.Crossing.{Left, left, crossed}
-use Rattle.corbelnib.specs.Lists.{listLeft, candidatesLeft, wayAsked, foundBy, movesLeft}
-use Rattle.corbelnib.specs.Values.{valueLeft, signatureLeft, scoresLeft}
-use Rattle.corbelnib.proofs.Crossing.{some-room}
-use Rattle.demands.specs.Calls.{moves, candidates, scores, signature, judge, Call, GoodBoard}
+use Rattle.crossing.specs.Crossing.{Left, left, crossed}
+use Rattle.crossing.specs.Lists.{listLeft, candidatesLeft, wayAsked, foundBy, movesLeft}
+use Rattle.crossing.specs.Values.{valueLeft, signatureLeft, scoresLeft}
+use Rattle.crossing.proofs.Crossing.{some-room}
+use Rattle.corbelnib.specs.Calls.{moves, candidates, scores, signature, judge, Call, GoodBoard}
 use Rattle.demands.specs.Demand1.{GoodSearch}
 use Rattle.demands.specs.Fnv1a.{fnv1a, isOctet}
 use Rattle.demands.specs.Demand2.{tableIn, Lists, answerTo, Answers, Demand2}

@@ -15,11 +15,11 @@ use Rattle.shuffle.specs.Shuffle.{deckOf}
 use Rattle.intake.specs.Deal.{dealt}
 use Rattle.intake.specs.Number.{isNumber, numberAsked}
 use Rattle.intake.proofs.Numbers.{number-given, number-none, number-fair, number-columns}
-use Rattle.corbelnib.specs.Wire.{boardRoom, boardIn, bytesOf}
-use Rattle.corbelnib.specs.Crossing.{Left, left}
-use Rattle.corbelnib.specs.Boards.{boardLeft, numberLeft}
-use Rattle.corbelnib.proofs.Handing.{hands-yes, hands-short}
-use Rattle.demands.specs.Calls.{number, Call, GoodBoard}
+use Rattle.crossing.specs.Wire.{boardRoom, boardIn, bytesOf}
+use Rattle.crossing.specs.Crossing.{Left, left}
+use Rattle.crossing.specs.Boards.{boardLeft, numberLeft}
+use Rattle.crossing.proofs.Handing.{hands-yes, hands-short}
+use Rattle.corbelnib.specs.Calls.{number, Call, GoodBoard}
 use Rattle.demands.specs.Demand1.{hands}
 use Rattle.demands.specs.Demand2.{tableIn}
 use Rattle.demands.specs.HandsByNumber.{dealtBy, HandsByNumber}

@@ -24,10 +24,10 @@ use Rattle.paper.specs.Asked.{counted, readAsked, listAfter, textRoom, movesIn,
 use Rattle.paper.proofs.Stopping.{place-within, place-begins, place-blocks}
 use Rattle.paper.proofs.Reading.{text-long}
 use Rattle.paper.proofs.Asking.{checked-gives, wrote, written-read, written-once, read-written}
-use Rattle.corbelnib.specs.Wire.{boardRoom, boardIn}
-use Rattle.corbelnib.specs.Crossing.{Left, left}
-use Rattle.corbelnib.specs.Papers.{lineAsked, countLeft, readBy, writtenBy, lineReadLeft, lineWrittenLeft}
-use Rattle.demands.specs.Calls.{readLine, writeLine, Call}
+use Rattle.crossing.specs.Wire.{boardRoom, boardIn}
+use Rattle.crossing.specs.Crossing.{Left, left}
+use Rattle.crossing.specs.Papers.{lineAsked, countLeft, readBy, writtenBy, lineReadLeft, lineWrittenLeft}
+use Rattle.corbelnib.specs.Calls.{readLine, writeLine, Call}
 use Rattle.demands.specs.Demand1.{ofMoves, refusals}
 use Rattle.demands.specs.LinesOnPaper.{textWritten, recordsRead, Octets, FirstWrong, LinesOnPaper}
 use Rattle.demands.proofs.Refusing.{by-test, by-verdict, board-refuses}

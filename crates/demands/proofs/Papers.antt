@@ -27,10 +27,10 @@ use Rattle.paper.specs.Lines.{Outcome, gives, refuses, refusesAt, checked, most
 use Rattle.paper.specs.Asked.{counted, readAsked, textRoom, movesIn, checkedAt, writeAsked}
 use Rattle.paper.specs.declared.Jot.{Jot}
 use Rattle.paper.specs.declared.Jot.the-variants.{Between, Counted, ToCell, ToHome, FromCell, CellHome}
-use Rattle.corbelnib.specs.Wire.{boardRoom, boardIn}
-use Rattle.corbelnib.specs.Crossing.{left}
-use Rattle.corbelnib.specs.Papers.{lineAsked, countLeft, withRoom}
-use Rattle.demands.specs.Calls.{readLine, writeLine, GoodBoard}
+use Rattle.crossing.specs.Wire.{boardRoom, boardIn}
+use Rattle.crossing.specs.Crossing.{left}
+use Rattle.crossing.specs.Papers.{lineAsked, countLeft, withRoom}
+use Rattle.corbelnib.specs.Calls.{readLine, writeLine, GoodBoard}
 use Rattle.demands.specs.Demand1.{isIn, ofMoves, refusals}
 use Rattle.demands.proofs.Refusing.{Refuses, by-test, by-verdict, board-refuses, ruling-refuses, step-refuses, in-moves}
 use Rattle.demands.proofs.Crossing.{Keeps, hands-back, given-after, good-board}

@@ -24,8 +24,8 @@ use Rattle.replay.specs.Step.{recorded, playedOn, stepped}
 use Rattle.priority.specs.Priority.{priorityOn}
 use Rattle.priority.specs.Asked.{priorityBy}
 use Rattle.solver.specs.Searched.{accepted}
-use Rattle.corbelnib.specs.Wire.{boardRoom, boardIn}
-use Rattle.corbelnib.specs.Crossing.{asked, within}
+use Rattle.crossing.specs.Wire.{boardRoom, boardIn}
+use Rattle.crossing.specs.Crossing.{asked, within}
 use Rattle.demands.specs.Demand1.{isIn, ofMoves}
 
 module _ (ns : List ℕ) where

@@ -29,15 +29,15 @@ use Rattle.search.specs.Claims.{bringsList}
 use Rattle.solver.specs.Told.{HandsOver}
 use Rattle.solver.specs.Told as solver
 use Rattle.solver.proofs.Calls as calls
-use Rattle.corbelnib.specs.Wire.{boardRoom, boardIn}
-use Rattle.corbelnib.specs.Wire as wire
-use Rattle.corbelnib.specs.Crossing.{Left, left}
-use Rattle.corbelnib.specs.Boards.{lineLeft, replayLeft}
-use Rattle.corbelnib.specs.Judged.{isAnswer}
-use Rattle.corbelnib.proofs.Handing.{line-yes}
+use Rattle.crossing.specs.Wire.{boardRoom, boardIn}
+use Rattle.crossing.specs.Wire as wire
+use Rattle.crossing.specs.Crossing.{Left, left}
+use Rattle.crossing.specs.Boards.{lineLeft, replayLeft}
+use Rattle.crossing.specs.Numbers.{isAnswer}
+use Rattle.crossing.proofs.Handing.{line-yes}
 use Rattle.corbelnib.proofs.Calls.{is-answer}
-use Rattle.corbelnib.proofs.Returning as returning
-use Rattle.demands.specs.Calls.{replay, judge, Call, GoodBoard}
+use Rattle.crossing.proofs.Returning as returning
+use Rattle.corbelnib.specs.Calls.{replay, judge, Call, GoodBoard}
 use Rattle.demands.specs.Demand2.{Replays, tableIn, handed, endOf}
 use Rattle.demands.proofs.Crossing.{good-asked}
 use Rattle.demands.proofs.Searching.{good-search, searching, same-number, sized}

@@ -17,11 +17,12 @@ use Rattle.solver.specs.Searched.{Outcome, refusedWith, accepted, searchedBy, a
 use Rattle.solver.specs.Told as solver
 use Rattle.solver.proofs.Accepting.{all-fine}
 use Rattle.solver.proofs.Calls.{asks, judge-answer}
-use Rattle.corbelnib.specs.Wire.{boardIn}
-use Rattle.corbelnib.specs.Crossing.{Left, left}
-use Rattle.corbelnib.specs.Judged.{flag, isAnswer, leaves, pointed, judgeLeft}
+use Rattle.crossing.specs.Wire.{boardIn}
+use Rattle.crossing.specs.Crossing.{Left, left}
+use Rattle.corbelnib.specs.Judged.{leaves, pointed, judgeLeft}
+use Rattle.crossing.specs.Numbers.{flag, isAnswer}
 use Rattle.corbelnib.proofs.Calls.{is-answer, call-of, call-number}
-use Rattle.demands.specs.Calls.{Lent, searchLeft, judge, Call, promise, capacityIn}
+use Rattle.corbelnib.specs.Calls.{Lent, searchLeft, judge, Call, promise, capacityIn}
 use Rattle.demands.specs.Demand1.{isIn, refusals, GoodSearch}
 use Rattle.demands.proofs.Refusing.{Refuses, search-refuses}
 use Rattle.demands.proofs.Crossing.{Keeps, apart, hands-back, refuses, kept, sized-in, good-board, good-fine}

@@ -22,11 +22,11 @@ use Rattle.season.specs.Season.{Lent, filled, resultOf, seasonAsked, seasonIn}
 use Rattle.season.proofs.Accepting.{all-given, no-first, no-last, over-budget, no-sheet, no-node}
 use Rattle.season.proofs.Leaving.{given-is}
 use Rattle.season.proofs.Seasons.{season-good}
-use Rattle.corbelnib.specs.Crossing.{Left, left, told, crossed}
-use Rattle.corbelnib.specs.Values.{valueLeft}
-use Rattle.corbelnib.specs.Judged.{flag}
+use Rattle.crossing.specs.Crossing.{Left, left, told, crossed}
+use Rattle.crossing.specs.Values.{valueLeft}
+use Rattle.crossing.specs.Numbers.{flag}
 use Rattle.corbelnib.specs.Season.{seasonLeft, addLeft}
-use Rattle.demands.specs.Calls.{season, add, Call, promise}
+use Rattle.corbelnib.specs.Calls.{season, add, Call, promise}
 use Rattle.demands.specs.Demand1.{hands, refusals, GoodRun, Addable, ClearedAll}
 use Rattle.demands.specs.SeasonsFigures.{sheetBy, settings, runOf, Sum}
 use Rattle.demands.proofs.Refusing.{Refuses, by-test}

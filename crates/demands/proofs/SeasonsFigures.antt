@@ -23,10 +23,10 @@ use Rattle.season.specs.Season.{resultOf, seasonAsked}
 use Rattle.season.proofs.Answers.{found-result}
 use Rattle.season.proofs.Accepting.{no-first, no-last, over-budget, no-sheet, no-node}
 use Rattle.season.proofs.Seasons.{season-good, season-empty, season-covers, seasons-add, season-parts, seasons-agree}
-use Rattle.corbelnib.specs.Crossing.{Left, left}
-use Rattle.corbelnib.specs.Judged.{flag, isAnswer}
-use Rattle.corbelnib.specs.Wire.{boardIn}
-use Rattle.demands.specs.Calls.{number, judge, season, add, Call}
+use Rattle.crossing.specs.Crossing.{Left, left}
+use Rattle.crossing.specs.Numbers.{flag, isAnswer}
+use Rattle.crossing.specs.Wire.{boardIn}
+use Rattle.corbelnib.specs.Calls.{number, judge, season, add, Call}
 use Rattle.demands.specs.HandsByNumber.{dealtBy}
 use Rattle.demands.specs.SeasonsFigures.{sheetBy, settings, runOf, settingsOf, Adds, Sum, SeasonsFigures}
 use Rattle.demands.proofs.Searching.{searching, same-number, answered}

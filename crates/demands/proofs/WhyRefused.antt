@@ -23,13 +23,13 @@ use Rattle.replay.proofs.Causes.{record-impossible, record-given, record-only, 
 use Rattle.replay.proofs.Keeping.{line-keeps}
 use Rattle.priority.specs.Priority.{priorityOn}
 use Rattle.priority.specs.Asked.{priorityBy, priorityAsked}
-use Rattle.corbelnib.specs.Wire.{boardRoom, boardIn, bytesOf}
-use Rattle.corbelnib.specs.Crossing.{Left, left, told, crossed}
-use Rattle.corbelnib.specs.Boards.{boardLeft, moveLeft, lineLeft, replayLeft}
-use Rattle.corbelnib.specs.Values.{valueLeft, priorityLeft}
-use Rattle.corbelnib.proofs.Returning.{bytes-long, board-back}
+use Rattle.crossing.specs.Wire.{boardRoom, boardIn, bytesOf}
+use Rattle.crossing.specs.Crossing.{Left, left, told, crossed}
+use Rattle.crossing.specs.Boards.{boardLeft, moveLeft, lineLeft, replayLeft}
+use Rattle.crossing.specs.Values.{valueLeft, priorityLeft}
+use Rattle.crossing.proofs.Returning.{bytes-long, board-back}
 use Rattle.base.specs.Put.{over}
-use Rattle.demands.specs.Calls.{move, replay, priority, Call, GoodBoard}
+use Rattle.corbelnib.specs.Calls.{move, replay, priority, Call, GoodBoard}
 use Rattle.demands.specs.Demand1.{isIn, ofMoves}
 use Rattle.demands.specs.Demand2.{tableIn, endOf}
 use Rattle.demands.specs.WhyRefused.{Says, recordAt, WhyRefused}

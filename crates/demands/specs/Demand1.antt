@@ -13,9 +13,9 @@ use Rattle.intake.specs.Image.{imageRead}
 use Rattle.intake.specs.Deal.{dealAsked}
 use Rattle.intake.specs.Number.{isNumber}
 use Rattle.base.specs.Blank.{blank}
-use Rattle.corbelnib.specs.Judged.{isAnswer}
-use Rattle.demands.specs.Calls.{Entry, examine, read, deal, number, move, replay, chain, moves, candidates, token, priority, scores, signature, features, capacity, judge, readLine, writeLine, season, add, top, cell, home, most, won, safe}
-use Rattle.demands.specs.Calls.{boundary, Call, GoodBoard, capacityIn, settingsBy}
+use Rattle.crossing.specs.Numbers.{isAnswer}
+use Rattle.corbelnib.specs.Calls.{Entry, examine, read, deal, number, move, replay, chain, moves, candidates, token, priority, scores, signature, features, capacity, judge, readLine, writeLine, season, add, top, cell, home, most, won, safe}
+use Rattle.corbelnib.specs.Calls.{boundary, In, Places, Call, GoodBoard, capacityIn, settingsBy}
 use Rattle.moves.specs.Written.{listRoom}
 use Rattle.solver.specs.Searched.{mostPops}
 use Rattle.sheets.specs.Figures.{sheetRoom}
@@ -208,7 +208,8 @@ placeOf safe = 25
 
 pub record Demand1 : Type 0 where
   -- "Nothing traps, nothing runs on. No board image, deck, move, list, budget or lent memory makes it trap": whatever goes in and
-  -- whatever lies in the lent places, there is one end
+  -- whatever lies in the lent places, there is an end, and one alone
+  pub someEnd : {e : Entry} (i : In e) (b : Places e) → (c : Call e) × ((c .input ≡ i) × (c .before ≡ b))
   pub oneEnd : {e : Entry} (x y : Call e) → x .input ≡ y .input → x .before ≡ y .before → SameEnd x y
   -- "Every entry point ..": these twenty-six
   pub many : length boundary ≡ 26

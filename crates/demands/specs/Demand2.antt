@@ -28,10 +28,10 @@ use Rattle.search.specs.Solve.{Answer}
 use Rattle.search.specs.Claims.{bringsList}
 use Rattle.search.specs.Freecell.{freecell, judge as search-of}
 use Rattle.solver.specs.Searched.{movesOf}
-use Rattle.corbelnib.specs.Wire.{boardRoom, boardIn}
-use Rattle.corbelnib.specs.Lists.{wayAsked}
-use Rattle.corbelnib.specs.Judged.{flag}
-use Rattle.demands.specs.Calls.{replay, moves, candidates, scores, signature, judge, Call, GoodBoard, capacityIn}
+use Rattle.crossing.specs.Wire.{boardRoom, boardIn}
+use Rattle.crossing.specs.Lists.{wayAsked}
+use Rattle.crossing.specs.Numbers.{flag}
+use Rattle.corbelnib.specs.Calls.{replay, moves, candidates, scores, signature, judge, Call, GoodBoard, capacityIn}
 use Rattle.demands.specs.Demand1.{GoodSearch}
 use Rattle.demands.specs.Fnv1a.{fnv1a, isOctet}
 

@@ -7,8 +7,8 @@ use lib.ListN.{length, take}
 use Rattle.shuffle.specs.Shuffle.{deckOf}
 use Rattle.intake.specs.Deal.{dealt}
 use Rattle.intake.specs.Number.{isNumber}
-use Rattle.corbelnib.specs.Wire.{boardRoom, boardIn}
-use Rattle.demands.specs.Calls.{number, Call, GoodBoard}
+use Rattle.crossing.specs.Wire.{boardRoom, boardIn}
+use Rattle.corbelnib.specs.Calls.{number, Call, GoodBoard}
 use Rattle.demands.specs.Demand2.{tableIn}
 
 -- the bytes of the board that was dealt

@@ -7,7 +7,7 @@ use Rattle.moves.specs.Written.{listRoom}
 use Rattle.paper.specs.Form.{jots, lineIn}
 use Rattle.paper.specs.Asked.{textRoom}
 use Rattle.paper.specs.declared.Jot.{Jot}
-use Rattle.demands.specs.Calls.{readLine, writeLine, Call}
+use Rattle.corbelnib.specs.Calls.{readLine, writeLine, Call}
 
 -- the text that a list was written as, and the records that a text was read into
 abbrev pub textWritten : Call writeLine → List ℕ

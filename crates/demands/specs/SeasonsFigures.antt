@@ -12,8 +12,8 @@ use Rattle.sheets.specs.Over.{Settings, Result, sheetOver, between, zeroSheet}
 use Rattle.sheets.specs.Good.{covered, wins, goodSheet}
 use Rattle.sheets.specs.Adding.{sameSettings, apart}
 use Rattle.season.specs.Season.{resultOf}
-use Rattle.corbelnib.specs.Judged.{flag, isAnswer}
-use Rattle.demands.specs.Calls.{number, judge, season, add, Call, capacityIn, settingsBy}
+use Rattle.crossing.specs.Numbers.{flag, isAnswer}
+use Rattle.corbelnib.specs.Calls.{number, judge, season, add, Call, capacityIn, settingsBy}
 use Rattle.demands.specs.Demand1.{GoodRun}
 use Rattle.demands.specs.HandsByNumber.{dealtBy}
 

@@ -7,7 +7,7 @@ use lib.ListN.{getD, take, drop}
 use Rattle.board.specs.Table.{Table}
 use Rattle.moves.specs.Record.{possible, moveOf}
 use Rattle.moves.specs.Causes.{Cause, causeNumber, First}
-use Rattle.demands.specs.Calls.{move, replay, priority, Call, GoodBoard}
+use Rattle.corbelnib.specs.Calls.{move, replay, priority, Call, GoodBoard}
 use Rattle.demands.specs.Demand1.{isIn, ofMoves}
 use Rattle.demands.specs.Demand2.{tableIn, endOf}
 
