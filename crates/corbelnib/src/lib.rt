@@ -385,7 +385,7 @@ pub extern "C" fn corbelnib_judge(
     let said = judged.said;
     let p = judged.pops;
     let m = judged.moves;
-    let number = solver::number(said);
+    let number = finish::number(said);
     if tell::is_answer(number) {
         *pops = p;
         *moves = m;

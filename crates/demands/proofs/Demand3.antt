@@ -21,7 +21,7 @@ use Rattle.search.specs.Solve.{Answer}
 use Rattle.search.specs.Claims.{bringsList, isBest}
 use Rattle.search.specs.Played.{finalScore}
 use Rattle.solver.specs.Told as solver
-use Rattle.solver.specs.Searched.{movesOf}
+use Rattle.finish.specs.Said.{movesOf}
 use Rattle.solver.proofs.Calls.{answered-accepted}
 use Rattle.solver.proofs.Calls as calls
 use Rattle.solver.proofs.Masters as masters

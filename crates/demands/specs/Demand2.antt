@@ -27,7 +27,7 @@ use Rattle.candidates.specs.Candidates.{candidates as tried}
 use Rattle.search.specs.Solve.{Answer}
 use Rattle.search.specs.Claims.{bringsList}
 use Rattle.search.specs.Freecell.{freecell, judge as search-of}
-use Rattle.solver.specs.Searched.{movesOf}
+use Rattle.finish.specs.Said.{movesOf}
 use Rattle.crossing.specs.Wire.{boardRoom, boardIn}
 use Rattle.crossing.specs.Lists.{wayAsked}
 use Rattle.crossing.specs.Numbers.{flag}

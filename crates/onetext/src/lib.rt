@@ -36,7 +36,7 @@ fn put_answer(
     let pops = j.pops as u8;
     let moves = j.moves as u8;
     let said = j.said;
-    let first = [solver::number(said), pops, moves];
+    let first = [finish::number(said), pops, moves];
     let after = write::put_line(out, at, &first);
     write::put_records(out, after, list, j.moves)
 }

@@ -50,7 +50,7 @@ fn enter_deal(
         &mut list,
     );
     let said = j.said;
-    let answer = solver::number(said);
+    let answer = finish::number(said);
     let pops = j.pops;
     let moves = j.moves;
     entries::note(sheet, n, answer, pops, moves);
