@@ -158,10 +158,11 @@ int main(void) {
     while (fgets(line, sizeof line, stdin) != NULL) {
         char *words[8];
         size_t count = 0;
-        for (char *word = strtok(line, " \n"); word != NULL; word = strtok(NULL, " \n")) {
-            words[at_most(count++, 7)] = word;
+        for (char *word = strtok(line, " \n"); word != NULL && line[0] != '#'; word = strtok(NULL, " \n")) {
+            words[at_most(count, 7)] = word;
+            count++;
         }
-        if (count > 0 && words[0][0] != '#') {
+        if (count > 0) {
             asked(words, count);
         }
     }
