@@ -1,7 +1,7 @@
 # The library and the command `corbelnib` (README.md).
 #   make                   builds both; the command is target/command/corbelnib, and ./corbelnib is a link to it
 #   make syntax            everything in C compiled with every warning an error, plainly and with the sanitizers; needs no library
-#   make check             the tests of the command, of the C boundary and of docs/FOR-TABLES.md (tests/README.md)
+#   make check             the tests of the command, of the C boundary (held to the original) and of docs/FOR-TABLES.md (tests/README.md)
 #   make check-sanitized   the same with the address and undefined-behaviour sanitizers in the command's own code, and 100,000 damaged inputs
 #   make check-masters     true answers two by two, held to demand 3
 #   make check-fc-solve    hands 1 to 100 beside fc-solve (Debian's package freecell-solver-bin)
@@ -77,14 +77,27 @@ $(sanitized)/lent: tests/lent.c include/corbelnib.h $(archive)
 	mkdir -p $(sanitized)
 	$(compile) $(sanitizers) tests/lent.c $(archive) -o $@
 
-check: $(build)/corbelnib $(build)/lent
+# programs whose output is held to that of the original (tests/oracles)
+oracles = $(patsubst tests/oracles/%.out,%,$(wildcard tests/oracles/*.out))
+
+$(oracles:%=$(build)/%): $(build)/%: tests/%.c tests/oracle.c tests/oracle.h include/corbelnib.h $(archive)
+	mkdir -p $(build)
+	$(compile) $(CFLAGS) $< tests/oracle.c $(archive) -o $@
+
+$(oracles:%=$(sanitized)/%): $(sanitized)/%: tests/%.c tests/oracle.c tests/oracle.h include/corbelnib.h $(archive)
+	mkdir -p $(sanitized)
+	$(compile) $(sanitizers) $< tests/oracle.c $(archive) -o $@
+
+check: $(build)/corbelnib $(build)/lent $(oracles:%=$(build)/%)
 	$(build)/lent
+	sh tests/oracles.sh $(build)
 	CORBELNIB_ARCHIVE=$(CURDIR)/$(build) CC="$(CC)" sh tests/for-tables.sh
 	COMMAND=$(CURDIR)/$(build)/corbelnib sh tests/papers.sh
 	COMMAND=$(CURDIR)/$(build)/corbelnib sh tests/run.sh
 
-check-sanitized: $(sanitized)/corbelnib $(sanitized)/damage $(sanitized)/lent
+check-sanitized: $(sanitized)/corbelnib $(sanitized)/damage $(sanitized)/lent $(oracles:%=$(sanitized)/%)
 	$(no_leaks) $(sanitized)/lent
+	$(no_leaks) sh tests/oracles.sh $(sanitized)
 	$(no_leaks) SANITIZED=yes COMMAND=$(CURDIR)/$(sanitized)/corbelnib sh tests/run.sh
 	$(no_leaks) $(sanitized)/damage 100000 1 tests/seeds/*
 

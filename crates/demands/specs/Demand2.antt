@@ -2,7 +2,7 @@
 -- The theorem is that the code is the definition: `found`, `candidates`, `heuristic`, `progress`, `signatureOf` and the search, `judge`.
 -- That these definitions are the original's is no theorem; it is shown by comparison: compare/ holds every C function against the
 -- original Rust on random boards, deals, boards that meet the depth limit and damaged input (README tells how), and the gate runs a
--- sample of the same (crates oracle_boards, oracle_moves, oracle_signatures, oracle_scores, oracle_judge, oracle_calls and texts).
+-- sample of the same (crates oracle_boards, oracle_moves, oracle_signatures, oracle_scores and texts; tests/oracles).
 use mathlib.Core.Path.{_≡_}
 use mathlib.Core.Bool.{true}
 use mathlib.Core.List.{List, []}
