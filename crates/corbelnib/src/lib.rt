@@ -117,10 +117,7 @@ pub extern "C" fn corbelnib_read_line(
     if board.len() != wire::BYTES {
         return 12;
     }
-    tell::line(
-        paper::read::read_line(wire::board_in(board), text, list),
-        count,
-    )
+    tell::line(reading::read_line(wire::board_in(board), text, list), count)
 }
 
 // The text of a list of moves, and the number of its bytes: 12 to 15, 31, 21; 30, 33 to 40 and 43 tell the place of the move.
@@ -137,7 +134,7 @@ pub extern "C" fn corbelnib_write_line(
         return 12;
     }
     tell::line(
-        paper::write::write_line(wire::board_in(board), list, text),
+        writing::write_line(wire::board_in(board), list, text),
         count,
     )
 }

@@ -8,12 +8,13 @@ use lib.ListN.{length}
 use Rattle.base.specs.Answer.{unless}
 use Rattle.board.specs.Verdict.{fine}
 use Rattle.board.specs.declared.Board.{Board}
-use Rattle.paper.specs.Lines.{Outcome, refuses, checked}
-use Rattle.paper.specs.Asked.{lineTold, readAsked, Reads, writeAsked, Writes}
+use Rattle.sense.specs.Outcome.{Outcome, refuses, checked, lineTold}
+use Rattle.reading.specs.Asked.{readAsked, Reads}
+use Rattle.writing.specs.Asked.{writeAsked, Writes}
 use Rattle.board.specs.Refusal.{numberOf}
 use Rattle.board.specs.declared.Refusal.{Refusal}
-use Rattle.paper.specs.declared.LineAnswer.{LineAnswer}
-use Rattle.paper.specs.declared.LineAnswer.the-variants.{Refused, RefusedAt}
+use Rattle.sense.specs.declared.LineAnswer.{LineAnswer}
+use Rattle.sense.specs.declared.LineAnswer.the-variants.{Refused, RefusedAt}
 use Rattle.crossing.specs.Wire.{boardIn}
 use Rattle.crossing.specs.Crossing.{left}
 use Rattle.crossing.specs.Papers.{lineAsked, countLeft, withRoom, readBy, writtenBy}

@@ -7,8 +7,9 @@ use Rattle.base.specs.Answer.{unless}
 use Rattle.board.specs.Verdict.{fine}
 use Rattle.board.specs.declared.Board.{Board}
 use Rattle.moves.specs.declared.Move.{Move}
-use Rattle.paper.specs.Lines.{Outcome, gives, refuses, refusesAt, checked}
-use Rattle.paper.specs.Asked.{counted, readAsked, listAfter, writeAsked, textAfter}
+use Rattle.sense.specs.Outcome.{Outcome, gives, refuses, refusesAt, checked, counted}
+use Rattle.reading.specs.Asked.{readAsked, listAfter}
+use Rattle.writing.specs.Asked.{writeAsked, textAfter}
 use Rattle.crossing.specs.Wire.{boardRoom, boardIn}
 use Rattle.crossing.specs.Crossing.{Left, left}
 

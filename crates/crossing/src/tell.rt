@@ -11,16 +11,16 @@ ghost use Rattle.crossing.specs.Papers.{countLeft};
 ghost use Rattle.crossing.specs.Values.{valueLeft};
 ghost use Rattle.crossing.specs.Questions.{topCode, codeLeft, yesLeft};
 ghost use Rattle.crossing.specs.Inner.{Coded, CodedAnswer};
-ghost use Rattle.paper.specs.Asked.{lineTold};
+ghost use Rattle.sense.specs.Outcome.{lineTold};
 use crate::WayAnswer;
 use board::Examined;
 use generate::Way;
-use paper::LineAnswer;
 use questions::CountAnswer;
 use questions::Top;
 use questions::TopAnswer;
 use questions::WonAnswer;
 use score::ScoreAnswer;
+use sense::LineAnswer;
 use signature::SignatureAnswer;
 
 // 0, or the number of a refusal.

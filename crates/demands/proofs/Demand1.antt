@@ -39,8 +39,11 @@ use Rattle.priority.specs.Asked.{priorityBy, priorityAsked}
 use Rattle.safe.specs.Safe.{firstSafe}
 use Rattle.safe.specs.declared.SafeMove.{SafeMove}
 use Rattle.candidates.specs.Candidates.{candidates as tried}
-use Rattle.paper.specs.Lines.{gives, checked, lineRead, textOf}
-use Rattle.paper.specs.Asked.{readAsked, listAfter, textRoom, movesIn, playedThrough, writtenThrough, writeAsked, textAfter}
+use Rattle.sense.specs.Outcome.{gives, checked}
+use Rattle.reading.specs.Lines.{lineRead}
+use Rattle.writing.specs.Lines.{textOf}
+use Rattle.reading.specs.Asked.{readAsked, listAfter}
+use Rattle.writing.specs.Asked.{textRoom, movesIn, playedThrough, writtenThrough, writeAsked, textAfter}
 use Rattle.solver.specs.Told as solver
 use Rattle.search.specs.Claims.{bringsList}
 use Rattle.solver.proofs.Calls.{answer-clears, T1-none}

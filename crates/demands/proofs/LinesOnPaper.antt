@@ -16,13 +16,14 @@ use Rattle.board.specs.declared.Board.{Board}
 use Rattle.moves.specs.Written.{listRoom, bytesOf, written}
 use Rattle.moves.specs.declared.Move.{Move}
 use Rattle.moves.proofs.Writing.{bytes-long}
-use Rattle.paper.specs.Form.{lineIn, jots, wrong}
-use Rattle.paper.specs.Lines.{Outcome, gives, checked, lineRead}
-use Rattle.paper.specs.Lines.{readBy as by-text}
-use Rattle.paper.specs.declared.Jot.{Jot}
-use Rattle.paper.specs.Asked.{counted, readAsked, listAfter, textRoom, movesIn, writeAsked, textAfter}
-use Rattle.paper.proofs.Stopping.{place-within, place-begins, place-blocks}
-use Rattle.paper.proofs.Reading.{text-long}
+use Rattle.notation.specs.Form.{lineIn, jots, wrong}
+use Rattle.sense.specs.Outcome.{Outcome, gives, checked, counted}
+use Rattle.reading.specs.Lines.{lineRead, readBy as by-text}
+use Rattle.notation.specs.declared.Jot.{Jot}
+use Rattle.reading.specs.Asked.{readAsked, listAfter}
+use Rattle.writing.specs.Asked.{textRoom, movesIn, writeAsked, textAfter}
+use Rattle.notation.proofs.Stopping.{place-within, place-begins, place-blocks}
+use Rattle.writing.proofs.Lengths.{text-long}
 use Rattle.paper.proofs.Asking.{checked-gives, wrote, written-read, written-once, read-written}
 use Rattle.crossing.specs.Wire.{boardRoom, boardIn}
 use Rattle.crossing.specs.Crossing.{Left, left}

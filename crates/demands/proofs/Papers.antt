@@ -21,12 +21,15 @@ use Rattle.moves.specs.Written.{listRoom}
 use Rattle.moves.specs.declared.Move.{Move}
 use Rattle.replay.specs.Step.{stepped}
 use Rattle.replay.specs.Line.{goOn, lineFrom, recordsIn, isLine}
-use Rattle.paper.specs.Form.{Reading, jots, wrong, lineIn}
-use Rattle.paper.specs.Meant.{vacant, fitting, origin, countGoes, leaves, sense, meant}
-use Rattle.paper.specs.Lines.{Outcome, gives, refuses, refusesAt, checked, mostMoves, ruled, first, readOn, movesFrom, readBy, lineRead, textOf, writableFirst}
-use Rattle.paper.specs.Asked.{counted, readAsked, textRoom, movesIn, checkedAt, writeAsked}
-use Rattle.paper.specs.declared.Jot.{Jot}
-use Rattle.paper.specs.declared.Jot.the-variants.{Between, Counted, ToCell, ToHome, FromCell, CellHome}
+use Rattle.notation.specs.Form.{Reading, jots, wrong, lineIn}
+use Rattle.sense.specs.Meant.{vacant, fitting, origin, countGoes, leaves, sense, meant}
+use Rattle.sense.specs.Outcome.{Outcome, gives, refuses, refusesAt, checked, mostMoves, counted, checkedAt}
+use Rattle.reading.specs.Lines.{ruled, first, readOn, movesFrom, readBy, lineRead}
+use Rattle.writing.specs.Lines.{textOf, writableFirst}
+use Rattle.reading.specs.Asked.{readAsked}
+use Rattle.writing.specs.Asked.{textRoom, movesIn, writeAsked}
+use Rattle.notation.specs.declared.Jot.{Jot}
+use Rattle.notation.specs.declared.Jot.the-variants.{Between, Counted, ToCell, ToHome, FromCell, CellHome}
 use Rattle.crossing.specs.Wire.{boardRoom, boardIn}
 use Rattle.crossing.specs.Crossing.{left}
 use Rattle.crossing.specs.Papers.{lineAsked, countLeft, withRoom}

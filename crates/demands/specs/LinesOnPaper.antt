@@ -4,9 +4,9 @@ use mathlib.Core.List.{List, _++_}
 use Prim.Native.Nat.{ℕ, suc, _*_, _<_, _≤_}
 use lib.ListN.{length, getD, take}
 use Rattle.moves.specs.Written.{listRoom}
-use Rattle.paper.specs.Form.{jots, lineIn}
-use Rattle.paper.specs.Asked.{textRoom}
-use Rattle.paper.specs.declared.Jot.{Jot}
+use Rattle.notation.specs.Form.{jots, lineIn}
+use Rattle.writing.specs.Asked.{textRoom}
+use Rattle.notation.specs.declared.Jot.{Jot}
 use Rattle.corbelnib.specs.Calls.{readLine, writeLine, Call}
 
 -- the text that a list was written as, and the records that a text was read into

@@ -6,13 +6,15 @@ use lib.ListN.{replicate}
 use Rattle.board.specs.Table.{Table}
 use Rattle.moves.specs.Written.{bytesOf}
 use Rattle.moves.specs.declared.Move.{Move}
-use Rattle.paper.specs.Jot.{lineText}
-use Rattle.paper.specs.Form.{formedBy, lineIn}
-use Rattle.paper.specs.Lines.{Outcome, gives, refuses, refusesAt, lineRead, textOf, writableFirst}
-use Rattle.paper.specs.Asked.{movesOf}
-use Rattle.paper.specs.declared.Formed.{Formed}
-use Rattle.paper.specs.declared.Formed.the-variants.{Moves, WrongAt}
-use Rattle.paper.specs.declared.Jot.the-variants.{ToHome}
+use Rattle.notation.specs.Jot.{lineText}
+use Rattle.notation.specs.Form.{formedBy, lineIn}
+use Rattle.sense.specs.Outcome.{Outcome, gives, refuses, refusesAt}
+use Rattle.reading.specs.Lines.{lineRead}
+use Rattle.writing.specs.Lines.{textOf, writableFirst}
+use Rattle.writing.specs.Asked.{movesOf}
+use Rattle.notation.specs.declared.Formed.{Formed}
+use Rattle.notation.specs.declared.Formed.the-variants.{Moves, WrongAt}
+use Rattle.notation.specs.declared.Jot.the-variants.{ToHome}
 use Rattle.paper.proofs.Opened.{opened}
 
 -- what is read from some texts: the bytes of the moves' records, or the refusal

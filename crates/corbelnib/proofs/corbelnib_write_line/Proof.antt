@@ -1,7 +1,7 @@
 -- What `corbelnib_write_line` leaves to be shown: another length, or what comes of the line.
 use mathlib.Core.Path.{_∙_}
 use lib.ListN.{length}
-use Rattle.paper.specs.Asked.{writeAsked}
+use Rattle.writing.specs.Asked.{writeAsked}
 use Rattle.crossing.specs.Papers.{writtenBy, lineWrittenLeft}
 use Rattle.crossing.proofs.Papering.{no-line, a-line, writes-left}
 use borrow.Author.Needs.{needs}

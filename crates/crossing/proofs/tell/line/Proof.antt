@@ -1,7 +1,7 @@
 -- What `line` leaves to be shown: the count, the refusal alone, or the refusal with its place.
 use mathlib.Core.Path.{sym, ap}
-use Rattle.paper.specs.Asked.{lineTold}
-use Rattle.paper.specs.declared.LineAnswer.{LineAnswer}
+use Rattle.sense.specs.Outcome.{lineTold}
+use Rattle.sense.specs.declared.LineAnswer.{LineAnswer}
 use Rattle.crossing.specs.Papers.{countLeft}
 use Rattle.crossing.proofs.Papering.{line-no, line-at}
 use borrow.Author.Needs.{needs}
