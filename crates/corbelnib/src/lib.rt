@@ -12,6 +12,7 @@ use crossing::tell;
 use crossing::wire;
 use safe::SafeAnswer;
 use score::FeaturesAnswer;
+use sense::LineAnswer;
 
 // 12 to 15, or 0 for a well-formed board.
 #[no_mangle]
@@ -117,7 +118,8 @@ pub extern "C" fn corbelnib_read_line(
     if board.len() != wire::BYTES {
         return 12;
     }
-    tell::line(reading::read_line(wire::board_in(board), text, list), count)
+    let answer: LineAnswer = reading::read_line(wire::board_in(board), text, list);
+    tell::line(answer, count)
 }
 
 // The text of a list of moves, and the number of its bytes: 12 to 15, 31, 21; 30, 33 to 40 and 43 tell the place of the move.
@@ -133,10 +135,8 @@ pub extern "C" fn corbelnib_write_line(
     if board.len() != wire::BYTES {
         return 12;
     }
-    tell::line(
-        writing::write_line(wire::board_in(board), list, text),
-        count,
-    )
+    let answer: LineAnswer = writing::write_line(wire::board_in(board), list, text);
+    tell::line(answer, count)
 }
 
 // The board after the chain of safe moves, and their number: 12 to 15, 21.
