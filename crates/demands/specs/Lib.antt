@@ -1,5 +1,6 @@
 -- Read these in this order.
 pub mod Calls
+pub mod Orders
 pub mod Demand1
 pub mod Fnv1a
 pub mod Demand2
