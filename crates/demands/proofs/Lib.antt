@@ -1,8 +1,10 @@
 -- The three demands hold, `demand1`, `demand2`, `demand3`, and what the requests add: `handsByNumber`, `whyRefused`, `linesOnPaper`, `bestLine`,
 -- `seasonsFigures`.
 pub mod Examples
-pub mod Refusing
 pub mod Crossing
+pub mod Ordering
+pub mod Rows
+pub mod Refusing
 pub mod Searching
 pub mod Hashing
 pub mod Replaying

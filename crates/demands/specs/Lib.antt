@@ -1,4 +1,5 @@
 -- Read these in this order.
+pub mod Orders
 pub mod Demand1
 pub mod Fnv1a
 pub mod Demand2
