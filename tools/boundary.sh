@@ -2,7 +2,7 @@
 # Holds the functions that C can call against each other: the code (crates/corbelnib/src/lib.rt), the header's prototypes, and the
 # list of which demand 1 speaks (crates/corbelnib/specs/Calls.antt). Each contract is the promise of its own entry there, of its own
 # parameters in their order. No function may ask anything of its caller. And the numbers that the header names: each is that of the
-# answer or refusal of the same name in the code.
+# answer or refusal of the same name in the code; and the version.
 set -eu
 cd "$(dirname "$0")/.."
 code=crates/corbelnib/src/lib.rt
@@ -82,6 +82,7 @@ promises() {
                 else if (part[2] ~ /&/) goes = goes " " part[1] " .entry"
                 else goes = goes " " part[1]
             }
+            if (goes == "") goes = " tt"
             if (left == "") print name " r ≡ promise call." entry goes " tt .number"
             else print name " left r" left " ≡ promise call." entry goes lay
         }'
@@ -124,6 +125,13 @@ unknown=$( (numbers_in_code; numbers_in_code; numbers_in_header) | sort | uniq -
 if [ -n "$unknown" ]; then
     echo "include/corbelnib.h names numbers that the code does not give:" >&2
     echo "$unknown" >&2
+    status=1
+fi
+version=$(sed -n 's/^#define CORBELNIB_VERSION "\([0-9]*\)\.\([0-9]*\)\.\([0-9]*\)"$/\1 \2 \3/p' include/corbelnib.h | awk '{ print $1 * 10000 + $2 * 100 + $3 }')
+told=$(sed -n 's/^#define CORBELNIB_VERSION_NUMBER \([0-9]*\)$/\1/p' include/corbelnib.h)
+defined=$(sed -n 's/^versionNumber = \([0-9]*\)$/\1/p' crates/corbelnib/specs/Calls.antt)
+if [ "$version" != "$told" ] || [ "$told" != "$defined" ]; then
+    echo "the version is $version in the header's text, $told in its number, $defined in crates/corbelnib/specs/Calls.antt" >&2
     status=1
 fi
 exit $status

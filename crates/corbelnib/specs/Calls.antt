@@ -50,11 +50,12 @@ pub data Entry : Type 0 where
   most : Entry
   won : Entry
   safe : Entry
+  version : Entry
 
 -- all of them (tools/boundary.sh holds this list against the code and the header)
 unfoldable pub boundary : List Entry
 boundary =
-    examine ∷ read ∷ deal ∷ number ∷ move ∷ replay ∷ chain ∷ moves ∷ candidates ∷ token ∷ priority ∷ scores ∷ signature ∷ features ∷ capacity ∷ judge ∷ readLine ∷ writeLine ∷ season ∷ add ∷ top ∷ cell ∷ home ∷ most ∷ won ∷ safe ∷ []
+    examine ∷ read ∷ deal ∷ number ∷ move ∷ replay ∷ chain ∷ moves ∷ candidates ∷ token ∷ priority ∷ scores ∷ signature ∷ features ∷ capacity ∷ judge ∷ readLine ∷ writeLine ∷ season ∷ add ∷ top ∷ cell ∷ home ∷ most ∷ won ∷ safe ∷ version ∷ []
 
 -- ---- what goes in, and what is lent
 
@@ -120,6 +121,7 @@ In home = List ℕ × ℕ
 In most = List ℕ × ℕ
 In won = List ℕ
 In safe = List ℕ
+In version = Unit {0}
 
 -- nothing; room; room and the place of a count; places of scores, of a signature, of a number; the search's; the season's; the sheet that is added to
 abbrev pub Places : Entry → Type 0
@@ -149,9 +151,14 @@ Places home = ℕ
 Places most = ℕ
 Places won = ℕ
 Places safe = List ℕ × ℕ
+Places version = Unit {0}
 
 -- ---- what each function promises: its number and every lent place, from what went in and what lay there. The contracts of
 -- crates/corbelnib/src/lib.rt cite this (tools/boundary.sh sees that each cites its own, with its parameters in their order)
+
+-- 0.6.1: ten thousand for each major version, a hundred for each minor one (tools/boundary.sh holds the header's to it)
+abbrev pub versionNumber : ℕ
+versionNumber = 601
 
 abbrev pub searchLeft : Outcome → Left Lent
 searchLeft o = left (o .number) (lends (o .nodes) (o .heap) (o .keys) (o .costs) (o .list) (o .pops) (o .moves))
@@ -184,6 +191,7 @@ promise home i n = homeLeft (i .0) (i .1) n
 promise most i n = mostLeft (i .0) (i .1) n
 promise won board n = wonLeft board n
 promise safe board l = safeLeft board (l .0) (l .1)
+promise version i u = left versionNumber u
 
 -- one call, with its promise
 pub record Call (e : Entry) : Type 0 where

@@ -421,6 +421,14 @@ pub extern "C" fn corbelnib_season(
     tell::verdict(said)
 }
 
+// The version of the library: 601 is 0.6.1.
+#[no_mangle]
+pub extern "C" fn corbelnib_version() -> u32
+    ensures { λ r. ⌜ r ≡ promise call.version tt tt .number ⌝ }
+{
+    601
+}
+
 // A sheet added to the first, where it stands: 47, 45, 44.
 #[no_mangle]
 pub extern "C" fn corbelnib_add(into: &mut [u64], other: &[u64]) -> u8

@@ -41,7 +41,7 @@ use Rattle.crossing.specs.Lists.{listLeft, candidatesLeft, wayAsked, foundBy, m
 use Rattle.crossing.specs.Values.{featureRoom, signatureLeft, priorityLeft, scoresLeft, numbersLeft, featuresLeft}
 use Rattle.crossing.specs.Questions.{topLeft, cellLeft, homeLeft, mostLeft, wonLeft, safeLeft}
 use Rattle.crossing.specs.Numbers.{isAnswer}
-use Rattle.corbelnib.specs.Calls.{Entry, examine, read, deal, number, move, replay, chain, moves, candidates, token, priority, scores, signature, features, capacity, judge, readLine, writeLine, season, add, top, cell, home, most, won, safe, boundary, In, Places, Call, promise}
+use Rattle.corbelnib.specs.Calls.{Entry, examine, read, deal, number, move, replay, chain, moves, candidates, token, priority, scores, signature, features, capacity, judge, readLine, writeLine, season, add, top, cell, home, most, won, safe, version, boundary, In, Places, Call, promise}
 use Rattle.demands.specs.Orders.{firstFailing, boards, isKind, oneMove, tableOf, order}
 use Rattle.demands.specs.Demand1.{isIn, ofMoves, hands, Tells, placeOf, Cleared, Demand1}
 use Rattle.demands.proofs.Refusing.{Refuses}
@@ -232,6 +232,7 @@ ruled home = home-ruled
 ruled most = most-ruled
 ruled won = won-ruled
 ruled safe = safe-ruled
+ruled version = λ i u. refl
 
 -- ---- with no number of a row something is handed back
 
@@ -263,6 +264,7 @@ bare home i l = refl
 bare most i l = refl
 bare won i l = refl
 bare safe i l = refl
+bare version i l = refl
 
 -- ---- the list of them
 
@@ -294,8 +296,9 @@ listed-at home = refl
 listed-at most = refl
 listed-at won = refl
 listed-at safe = refl
+listed-at version = refl
 
-listed-all : length boundary ≡ 26
+listed-all : length boundary ≡ 27
 unfolding boundary
 listed-all = refl
 

@@ -12,7 +12,7 @@ use Rattle.board.specs.Verdict.{Verdict, fine}
 use Rattle.intake.specs.Number.{isNumber}
 use Rattle.base.specs.Blank.{blank}
 use Rattle.crossing.specs.Numbers.{isAnswer}
-use Rattle.corbelnib.specs.Calls.{Entry, examine, read, deal, number, move, replay, chain, moves, candidates, token, priority, scores, signature, features, capacity, judge, readLine, writeLine, season, add, top, cell, home, most, won, safe}
+use Rattle.corbelnib.specs.Calls.{Entry, examine, read, deal, number, move, replay, chain, moves, candidates, token, priority, scores, signature, features, capacity, judge, readLine, writeLine, season, add, top, cell, home, most, won, safe, version}
 use Rattle.corbelnib.specs.Calls.{boundary, In, Places, Call, GoodBoard, capacityIn, settingsBy}
 use Rattle.moves.specs.Written.{listRoom}
 use Rattle.solver.specs.Searched.{mostPops}
@@ -59,6 +59,7 @@ hands home n = eqb n 0
 hands most n = eqb n 0
 hands won n = eqb n 0
 hands safe n = eqb n 0
+hands version n = true
 
 -- what a function tells after its tests: the number of the first that fails; where none fails, something is handed back
 abbrev pub Tells : Entry → Verdict → ℕ → Type 0
@@ -103,7 +104,7 @@ pub record ClearedAll (c : Call season) : Type 0 where
   pub keys : c .after .keys ≡ blank (c .before .keys)
   pub costs : c .after .costs ≡ blank (c .before .costs)
 
--- which of the twenty-six a function is
+-- which of the twenty-seven a function is
 abbrev pub placeOf : Entry → ℕ
 placeOf examine = 0
 placeOf read = 1
@@ -131,14 +132,15 @@ placeOf home = 22
 placeOf most = 23
 placeOf won = 24
 placeOf safe = 25
+placeOf version = 26
 
 pub record Demand1 : Type 0 where
   -- "Nothing traps, nothing runs on. No board image, deck, move, list, budget or lent memory makes it trap": whatever goes in and
   -- whatever lies in the lent places, there is an end, and one alone
   pub someEnd : {e : Entry} (i : In e) (b : Places e) → (c : Call e) × ((c .input ≡ i) × (c .before ≡ b))
   pub oneEnd : {e : Entry} (x y : Call e) → x .input ≡ y .input → x .before ≡ y .before → SameEnd x y
-  -- "Every entry point ..": these twenty-six
-  pub many : length boundary ≡ 26
+  -- "Every entry point ..": these twenty-seven
+  pub many : length boundary ≡ 27
   pub all : (e : Entry) → getD boundary (placeOf e) judge ≡ e
   -- ".. examines what it gets": where something is handed back, no test of the function's row failed
   pub examines : {e : Entry} (c : Call e) → hands e (c .number) ≡ true → firstFailing (order e (c .input) (c .before)) ≡ fine

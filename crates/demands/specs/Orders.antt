@@ -25,7 +25,7 @@ use Rattle.writing.specs.Asked.{movesIn}
 use Rattle.sheets.specs.Good.{goodSheet}
 use Rattle.sheets.specs.Adding.{sameSettings, apart}
 use Rattle.crossing.specs.Wire.{boardIn}
-use Rattle.corbelnib.specs.Calls.{Entry, examine, read, deal, number, move, replay, chain, moves, candidates, token, priority, scores, signature, features, capacity, judge, readLine, writeLine, season, add, top, cell, home, most, won, safe}
+use Rattle.corbelnib.specs.Calls.{Entry, examine, read, deal, number, move, replay, chain, moves, candidates, token, priority, scores, signature, features, capacity, judge, readLine, writeLine, season, add, top, cell, home, most, won, safe, version}
 use Rattle.corbelnib.specs.Calls.{In, Places, capacityIn, settingsBy}
 
 -- a test, and its number
@@ -143,3 +143,4 @@ order home i n = boards (i .0) ++ placeBelow 4 (i .1)
 order most i n = boards (i .0) ++ placeBelow 8 (i .1)
 order won board n = boards board
 order safe board l = boards board ++ roomFor 5 (l .0)
+order version i u = []
