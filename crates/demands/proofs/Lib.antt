@@ -9,6 +9,7 @@ pub mod Searching
 pub mod Hashing
 pub mod Replaying
 pub mod Papers
+pub mod BadSheet
 pub mod Seasons
 pub mod Demand1
 pub mod Demand2

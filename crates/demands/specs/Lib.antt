@@ -8,4 +8,5 @@ pub mod HandsByNumber
 pub mod WhyRefused
 pub mod LinesOnPaper
 pub mod BestLine
+pub mod BadSheet
 pub mod SeasonsFigures
