@@ -28,7 +28,7 @@ impl Came {
 }
 
 // A text, what it gives on S, and on M.
-const ON_S_AND_M: [(&str, Came, Came); 20] = [
+const ON_S_AND_M: [(&str, Came, Came); 21] = [
     ("12", Read(&[[1, 0, 1, 1, 211]]), Read(&[[1, 0, 1, 3, 179]])),
     ("12v1", At(30, 0), Read(&[[1, 0, 1, 1, 147]])),
     ("12v2", At(30, 0), Read(&[[1, 0, 1, 2, 162]])),
@@ -40,6 +40,8 @@ const ON_S_AND_M: [(&str, Came, Came); 20] = [
     // before 33
     ("22", At(30, 0), At(30, 0)),
     ("21", At(33, 0), At(33, 0)),
+    // no card comes before the count
+    ("21v1", At(33, 0), At(33, 0)),
     ("2h", At(33, 0), At(33, 0)),
     ("ah", At(33, 0), Read(&[[5, 0, 2, 1, 146]])),
     ("a1", At(33, 0), At(38, 0)),
@@ -65,6 +67,16 @@ const ON_F: [(&str, Came); 5] = [
     ("a2", At(38, 0)),
     ("1a", At(39, 0)),
     ("12v1", At(30, 0)),
+];
+
+// On R, a run of twelve and an empty column: the digits past nine.
+const ON_R: [(&str, Came); 5] = [
+    ("12", Read(&[[1, 0, 1, 12, 211]])),
+    ("12vb", Read(&[[1, 0, 1, 11, 194]])),
+    ("12va", Read(&[[1, 0, 1, 10, 179]])),
+    ("12v9", Read(&[[1, 0, 1, 9, 162]])),
+    // not below the most
+    ("12vc", At(30, 0)),
 ];
 
 // On any board: 42, with the place of the first wrong character.
@@ -132,6 +144,13 @@ fn f() -> FreeCellBoard {
     laid([8; 4], "KC KD KH KS", columns)
 }
 
+fn r() -> FreeCellBoard {
+    let twelve = "KS QH JS TH 9S 8H 7S 6H 5S 4H 3S 2H";
+    let eleven = "KH QS JH TS 9H 8S 7H 6S 5H 4S 3H";
+    let columns = [twelve, "", eleven, "", "", "", "", ""];
+    laid([13, 13, 1, 2], "- - - -", columns)
+}
+
 type Asked = (FreeCellBoard, Vec<u8>);
 
 // The king of S to and fro, this many moves.
@@ -149,6 +168,8 @@ fn long() -> Vec<(Vec<u8>, Paper)> {
     let with = |moves: usize, more: &str| [&to_and_fro(moves), more.as_bytes()].concat();
     let all: Vec<u8> = [[3, 0, 0, 1, 211], [4, 0, 0, 1, 211]].concat().repeat(100);
     let first_bad = [b"21 ", &to_and_fro(201)[..]].concat();
+    // 400 moves and an x behind them, 1,200 bytes
+    let wrong_end = [&["1a"; 400].join(" ")[..], "x"].concat().into_bytes();
     vec![
         (with(200, ""), Ok((all, 200))),
         (with(201, ""), Alone(31).paper()),
@@ -162,6 +183,7 @@ fn long() -> Vec<(Vec<u8>, Paper)> {
         (with(200, " 12v"), At(42, 603).paper()),
         (with(199, " 2h"), At(33, 199).paper()),
         (first_bad, Alone(31).paper()),
+        (wrong_end, At(42, 1_199).paper()),
     ]
 }
 
@@ -177,13 +199,14 @@ pub fn longest() -> [Vec<u8>; 2] {
 
 // Every text, each with its board. They all give what is written out, or this ends here.
 pub fn texts() -> Vec<Asked> {
-    let (s, m, f) = (worked::s(), worked::m(), f());
+    let (s, m, f, r) = (worked::s(), worked::m(), f(), r());
     let mut all: Vec<(&FreeCellBoard, Vec<u8>, Paper)> = Vec::new();
     for (text, on_s, on_m) in ON_S_AND_M {
         all.push((&s, text.into(), on_s.paper()));
         all.push((&m, text.into(), on_m.paper()));
     }
     all.extend(ON_F.map(|(text, came)| (&f, text.into(), came.paper())));
+    all.extend(ON_R.map(|(text, came)| (&r, text.into(), came.paper())));
     for board in [&s, &m, &f] {
         all.push((board, Vec::new(), Read(&[]).paper()));
         all.extend(WRONG.map(|(text, place)| (board, text.into(), At(42, place).paper())));
@@ -246,6 +269,7 @@ pub fn lines() -> &'static [Asked] {
         assert_eq!(lines[1].1.split(|&c| c == b' ').nth(60), Some(&b"65v1"[..]));
         lines.push((worked::m(), b"12v1 21 ah 12v2 21 1h".to_vec()));
         lines.push((worked::s(), b"1a a2 28 8d d1 1h".to_vec()));
+        lines.extend([b"12vb", b"12va"].map(|text| (r(), text.to_vec())));
         lines
     });
     &LINES
