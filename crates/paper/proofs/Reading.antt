@@ -112,7 +112,7 @@ one-text t ms ns f l w h k v i e =
 
 -- ---- writing what was read
 
-also-gives : (m : Move) (o : Outcome (List Move)) {ms : List Move} → first m o ≡ gives ms → (ns : List Move) × ((o ≡ gives ns) × (m ∷ ns ≡ ms))
+pub also-gives : (m : Move) (o : Outcome (List Move)) {ms : List Move} → first m o ≡ gives ms → (ns : List Move) × ((o ≡ gives ns) × (m ∷ ns ≡ ms))
 also-gives m (gives ns) {ms} e = (ns, (refl, let q : m ∷ ns ≡ ms = cc in q))
 also-gives m (refuses n) e = let z : _≡_ {A = ℕ} 0 1 = cc in absurd (let w : ⊥ = omega arith in w)
 also-gives m (refusesAt n p) e = let z : _≡_ {A = ℕ} 0 1 = cc in absurd (let w : ⊥ = omega arith in w)
@@ -123,7 +123,7 @@ pub record Again (t : Table) (js : List Jot) (ms : List Move) : Type 0 where
   pub writes : Writable ms
   pub same : jotsOf t ms ≡ js
 
-not-given : {A : Type 0} {ms : List Move} (n p : ℕ) → refusesAt n p ≡ gives ms → A
+pub not-given : {A : Type 0} {ms : List Move} (n p : ℕ) → refusesAt n p ≡ gives ms → A
 not-given n p e = let z : _≡_ {A = ℕ} 0 1 = cc in absurd (let w : ⊥ = omega arith in w)
 
 jots-again : (t : Table) (js : List Jot) (at : ℕ) (ms : List Move) → Fair t → AllWell js → movesFrom t at js ≡ gives ms → Again t js ms
