@@ -16,6 +16,10 @@ pub mod Demand2
 pub mod Demand3
 pub mod HandsByNumber
 pub mod WhyRefused
+pub mod WrittenMoves
+pub mod PaperCalls
+pub mod ReadingLines
+pub mod WritingLines
 pub mod LinesOnPaper
 pub mod BestLine
 pub mod SeasonsFigures

@@ -6,6 +6,7 @@ pub mod Demand2
 pub mod Demand3
 pub mod HandsByNumber
 pub mod WhyRefused
+pub mod WrittenMoves
 pub mod LinesOnPaper
 pub mod BestLine
 pub mod BadSheet

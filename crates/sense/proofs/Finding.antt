@@ -221,9 +221,12 @@ module _ (t : Table) (j : Jot) where
   meant-own e = sym (rw e)
 
   module _ (away : leaves j ≡ true) where
-    pub meant-bare : topOf (there t (origin j)) ≡ Empty → refused 33 ≡ meant t j
+    pub meant-none : length (there t (origin j)) < 1 → refused 33 ≡ meant t j
     unfolding meant
-    meant-bare e = sym (rw (away, lt-leb 1 (length (there t (origin j))) (let z = top-empty (there t (origin j)) e in omega arith)))
+    meant-none h = sym (rw (away, lt-leb 1 (length (there t (origin j))) h))
+
+    pub meant-bare : topOf (there t (origin j)) ≡ Empty → refused 33 ≡ meant t j
+    meant-bare e = meant-none (let z = top-empty (there t (origin j)) e in omega arith)
 
     pub meant-there : {c : Card} → topOf (there t (origin j)) ≡ Is c → sense t j ≡ meant t j
     meant-there {c} e = sym (meant-sense t j away (let z = some-there (there t (origin j)) c e in omega arith))
