@@ -1,5 +1,6 @@
 // How fast the two judge, or, built to count that (the feature `memory`), what memory they take: the same deals and budgets, one after the
 // other in one thread. bench/run.sh builds both ways and calls them; usage.txt says with which words.
+mod clock;
 #[path = "../../compare/src/codes.rs"]
 #[allow(dead_code)]
 mod codes;
@@ -38,10 +39,9 @@ use draws::Draws;
 use lent::{Room, Scratch};
 use original::common;
 use original::freecell::board::FreeCellBoard;
-use original::freecell::solver;
+use original::freecell::solver::{self, Judged};
 use refusals::{LIST, MOST_NUMBER, MOST_POPS};
 use std::hint::black_box;
-use std::time::Instant;
 
 const USAGE: &str = include_str!("../usage.txt");
 
@@ -83,11 +83,11 @@ fn rounds(pops: usize) -> usize {
 // The seconds of the original's search, so often.
 fn their_seconds(board: &FreeCellBoard, budget: usize, rounds: usize) -> f64 {
     let board = plain::board(board);
-    let start = Instant::now();
+    let start = clock::seconds();
     for _ in 0..rounds {
         black_box(plain::bench_theirs(black_box(&board), budget));
     }
-    start.elapsed().as_secs_f64()
+    clock::seconds() - start
 }
 
 // The most bytes that the original's search had out at once; nothing is counted in the build that measures time.
@@ -117,28 +117,38 @@ fn our_judge(board: &FreeCellBoard, budget: usize, nodes: usize) -> (u8, usize, 
     let mut scratch = Scratch::new(&mut draws, [3 * nodes, nodes, 2 * nodes, 2 * nodes]);
     let mut list = Room::new(&mut draws, LIST);
     let bytes = codes::bytes(board);
-    let start = Instant::now();
+    let start = clock::seconds();
     let (number, pops) = bench_ours(&bytes, budget, &mut scratch, list.lent());
-    (number, pops, start.elapsed().as_secs_f64())
+    (number, pops, clock::seconds() - start)
+}
+
+// The seconds of a search of each.
+fn seconds(board: &FreeCellBoard, budget: usize, judged: &Judged) -> (f64, f64) {
+    let rounds = rounds(judged.pops);
+    let theirs = their_seconds(board, budget, rounds);
+    let mut ours = 0.0;
+    for _ in 0..rounds {
+        let (number, pops, seconds) = our_judge(board, budget, judged.births.max(1));
+        assert_eq!((number, pops), (judged.number, judged.pops));
+        ours += seconds;
+    }
+    (ours / rounds as f64, theirs / rounds as f64)
 }
 
 // What comes is asked of the original that is counted, which is not timed.
 fn both(board: &FreeCellBoard, budget: usize) -> Both {
     let judged = solver::judge(board, budget, usize::MAX, false);
-    let rounds = rounds(judged.pops);
     let nodes = judged.births.max(1);
-    let theirs = their_seconds(board, budget, rounds) / rounds as f64;
-    let mut ours = 0.0;
-    for _ in 0..rounds {
-        let (number, pops, seconds) = our_judge(board, budget, nodes);
-        assert_eq!((number, pops), (judged.number, judged.pops));
-        ours += seconds;
-    }
+    let (ours, theirs) = if MEMORY {
+        (0.0, 0.0)
+    } else {
+        seconds(board, budget, &judged)
+    };
     Both {
         number: judged.number,
         pops: judged.pops,
         nodes,
-        ours: ours / rounds as f64,
+        ours,
         theirs,
         our_bytes: bytes_for(nodes),
         their_bytes: their_bytes(board, budget),
