@@ -33,6 +33,6 @@ fi
 if [ $# -eq 0 ] && command -v valgrind > /dev/null; then
     for side in bench_ours bench_theirs; do
         valgrind --tool=callgrind --callgrind-out-file=/dev/null "--toggle-collect=$side" \
-            "$cargo/time/release/bench" first=4 last=4 budget=10000 long=0 2>&1 | sed -n "s/.*Collected : /$side, instructions: /p"
+            "$cargo/time/release/bench" first=4 budget=10000 once=1 2>&1 | sed -n "s/.*Collected : /$side, instructions: /p"
     done
 fi

@@ -257,15 +257,26 @@ fn measure([first, last, budget, long]: [usize; 4]) {
     }
 }
 
+// One search of each, for callgrind, which counts the one that it is told.
+fn once(deal: usize, budget: usize) {
+    let board = board_of(deal);
+    let judged = solver::judge(&board, budget, usize::MAX, false);
+    our_judge(&board, budget, judged.births.max(1));
+    their_seconds(&board, budget, 1);
+}
+
 fn main() {
     let names = [("first", 1), ("last", 60), ("budget", 100_000), ("long", 5)];
-    let words = words::asked(USAGE, &[], &names);
+    let words = words::asked(USAGE, &[], &[&names[..], &[("once", 0)]].concat());
     let numbers @ [first, last, budget, _] = names.map(|(name, _)| words.number(name));
     if first == 0 || first > last || last > MOST_NUMBER || budget > MOST_POPS {
         words::wrong(
             USAGE,
             "first is at least 1 and at most last, last at most 32000, budget at most 1000000",
         );
+    }
+    if words.number("once") == 1 {
+        return once(first, budget);
     }
     let what = if MEMORY { "memory" } else { "time" };
     println!("{what}: deals {first} to {last}, budget {budget}, no partial");
