@@ -755,7 +755,9 @@ fn all_calls(run: &Run) -> Vec<Call> {
     calls.extend(judgings(&boards));
     calls.extend(hands(&boards[0]));
     calls.extend(refused_moves());
-    let asked = [&boards[..], &patterned()].concat();
+    // no card in a column, and not won
+    let held = worked::laid([13, 13, 13, 12], "- - KS -", [""; 8]);
+    let asked = [&boards[..], &patterned(), &[held]].concat();
     assert_places_apart(&asked);
     calls.extend(asked.iter().flat_map(questions));
     calls.extend(damaged(&boards[4], &NAMES[16..]));
