@@ -1,7 +1,7 @@
 #!/bin/sh
 # Holds the functions that C can call against each other: the code (crates/corbelnib/src/lib.rt), the header's prototypes, and the
-# list of which demand 1 speaks (crates/corbelnib/specs/Calls.antt). Each contract is the promise of its own entry there, of its own
-# parameters in their order. No function may ask anything of its caller. And the numbers that the header names: each is that of the
+# list of which demand 1 speaks (crates/demands/specs/Demand1.antt). Each contract is the promise of its own entry
+# (crates/corbelnib/specs/Calls.antt), of its own parameters in their order. No function may ask anything of its caller. And the numbers that the header names: each is that of the
 # answer or refusal of the same name in the code; and the version.
 set -eu
 cd "$(dirname "$0")/.."
@@ -99,7 +99,7 @@ numbers_in_header() {
 }
 
 names=$(sed -n 's/^pub extern "C" fn corbelnib_\([a-z_]*\)(.*/\1/p' "$code" | sort)
-demand=$(sed -n '/^boundary =/,/^$/p' crates/corbelnib/specs/Calls.antt | tail -n +2 | tr '∷' '\n' | sed 's/[A-Z]/_\L&/g; s/[^a-z_]//g' | grep -v '^$' | sort)
+demand=$(sed -n '/^boundary =/,/^$/p' crates/demands/specs/Demand1.antt | tail -n +2 | tr '∷' '\n' | sed 's/[A-Z]/_\L&/g; s/[^a-z_]//g' | grep -v '^$' | sort)
 status=0
 apart=$( (in_code; in_header) | sort | uniq -u)
 if [ -n "$apart" ]; then
@@ -108,7 +108,7 @@ if [ -n "$apart" ]; then
     status=1
 fi
 if [ "$names" != "$demand" ]; then
-    echo "demand 1 (crates/corbelnib/specs/Calls.antt) does not speak of the functions of $code" >&2
+    echo "demand 1 (crates/demands/specs/Demand1.antt) does not speak of the functions of $code" >&2
     status=1
 fi
 astray=$( (contracts; promises) | sort | uniq -u)

@@ -1,7 +1,7 @@
 -- A call through the C boundary: what went in, the number that came back, and every lent place before and after.
 use mathlib.Core.Path.{_≡_}
 use mathlib.Core.Bool.{true}
-use mathlib.Core.List.{List, [], _∷_}
+use mathlib.Core.List.{List}
 use Prim.Native.Nat.{ℕ}
 use lib.IntN.{ℤ}
 use lib.ListN.{length}
@@ -51,11 +51,6 @@ pub data Entry : Type 0 where
   won : Entry
   safe : Entry
   version : Entry
-
--- all of them (tools/boundary.sh holds this list against the code and the header)
-unfoldable pub boundary : List Entry
-boundary =
-    examine ∷ read ∷ deal ∷ number ∷ move ∷ replay ∷ chain ∷ moves ∷ candidates ∷ token ∷ priority ∷ scores ∷ signature ∷ features ∷ capacity ∷ judge ∷ readLine ∷ writeLine ∷ season ∷ add ∷ top ∷ cell ∷ home ∷ most ∷ won ∷ safe ∷ version ∷ []
 
 -- ---- what goes in, and what is lent
 

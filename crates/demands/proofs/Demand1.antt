@@ -41,9 +41,9 @@ use Rattle.crossing.specs.Lists.{listLeft, candidatesLeft, wayAsked, foundBy, m
 use Rattle.crossing.specs.Values.{featureRoom, signatureLeft, priorityLeft, scoresLeft, numbersLeft, featuresLeft}
 use Rattle.crossing.specs.Questions.{topLeft, cellLeft, homeLeft, mostLeft, wonLeft, safeLeft}
 use Rattle.crossing.specs.Numbers.{isAnswer}
-use Rattle.corbelnib.specs.Calls.{Entry, examine, read, deal, number, move, replay, chain, moves, candidates, token, priority, scores, signature, features, capacity, judge, readLine, writeLine, season, add, top, cell, home, most, won, safe, version, boundary, In, Places, Call, promise}
+use Rattle.corbelnib.specs.Calls.{Entry, examine, read, deal, number, move, replay, chain, moves, candidates, token, priority, scores, signature, features, capacity, judge, readLine, writeLine, season, add, top, cell, home, most, won, safe, version, In, Places, Call, promise}
 use Rattle.demands.specs.Orders.{firstFailing, boards, isKind, oneMove, tableOf, order}
-use Rattle.demands.specs.Demand1.{isIn, ofMoves, hands, Tells, placeOf, Cleared, Demand1}
+use Rattle.demands.specs.Demand1.{boundary, isIn, ofMoves, hands, Tells, placeOf, Cleared, Demand1}
 use Rattle.demands.proofs.Refusing.{Refuses}
 use Rattle.demands.proofs.Ordering.{boards-good, good-boards, board-first, By, untested, tested, roomed, asked-by, Held, crosses, Ruled, Bare, call-numbered, call-examines, call-keeps}
 use Rattle.demands.proofs.Rows.{image-by, deck-by, step-by, priority-by, wayAt, way-by}

@@ -26,11 +26,10 @@ use Rattle.crossing.specs.Wire.{boardRoom, boardIn}
 use Rattle.crossing.specs.Crossing.{Left}
 use Rattle.crossing.specs.Papers.{countLeft}
 use Rattle.corbelnib.specs.Calls.{readLine, writeLine, Call}
-use Rattle.demands.specs.Demand1.{refusals}
 use Rattle.demands.specs.LinesOnPaper.{textWritten, recordsRead, Octets, InForm, FirstWrong, LinesOnPaper}
 use Rattle.demands.proofs.Refusing.{by-test, by-verdict, board-refuses}
 use Rattle.demands.proofs.Crossing.{sized-in}
-use Rattle.demands.proofs.Papers.{readOutcome, writeOutcome, passed-on, forty-two}
+use Rattle.demands.proofs.Papers.{readRefusals, readOutcome, writeOutcome, passed-on, forty-two}
 use Rattle.demands.proofs.PaperCalls.{asked-on, asked-gave, read, read-end, read-number, read-gave, read-done, records-are, list-kept, write-gave, write-done, text-is, text-kept, answer, written-text, text-short}
 use Rattle.demands.proofs.ReadingLines.{bad-board, little-room, no-line, past-most, no-moves, wrong-move, bad-move, one-more}
 use Rattle.demands.proofs.WritingLines.{replay-first, no-notation, little-text, all-written}

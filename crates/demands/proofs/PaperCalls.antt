@@ -25,11 +25,11 @@ use Rattle.crossing.specs.Wire.{boardRoom, boardIn}
 use Rattle.crossing.specs.Crossing.{Left, left}
 use Rattle.crossing.specs.Papers.{lineAsked, countLeft, readBy, writtenBy, lineReadLeft, lineWrittenLeft}
 use Rattle.corbelnib.specs.Calls.{readLine, writeLine, Call}
-use Rattle.demands.specs.Demand1.{ofMoves, refusals}
+use Rattle.demands.specs.Demand1.{ofMoves}
 use Rattle.demands.specs.LinesOnPaper.{textWritten, recordsRead, Octets}
 use Rattle.demands.proofs.Crossing.{sized-in}
 use Rattle.demands.proofs.Replaying.{over-first}
-use Rattle.demands.proofs.Papers.{readOutcome, writeOutcome, read-stops, write-stops, Gave, zero-gave, not-zero-keeps}
+use Rattle.demands.proofs.Papers.{readRefusals, writeRefusals, readOutcome, writeOutcome, read-stops, write-stops, Gave, zero-gave, not-zero-keeps}
 
 -- ---- a board of 432 bytes is asked further
 
@@ -62,7 +62,7 @@ module _ (r : Call readLine) where
   read-number = ap (λ (l : Left (List ℕ × ℕ)). l .number) read-end
 
   pub read-gave : r .number ≡ 0 → Gave read
-  read-gave e = zero-gave (refusals readLine) (42 ∷ ofMoves) refl refl read (r .before .1) (read-stops (r .input .0) (r .input .1) (length (r .before .0))) (sym read-number ∙ e)
+  read-gave e = zero-gave readRefusals (42 ∷ ofMoves) refl refl read (r .before .1) (read-stops (r .input .0) (r .input .1) (r .before .0)) (sym read-number ∙ e)
 
   module _ {ms : List Move} (e : read ≡ gives ms) where
     pub read-so : left (r .number) (r .after) ≡ readBy (gives ms) (r .before .0) (r .before .1)
@@ -102,7 +102,7 @@ module _ (w : Call writeLine) where
   write-number = ap (λ (l : Left (List ℕ × ℕ)). l .number) write-end
 
   pub write-gave : w .number ≡ 0 → Gave wrote-it
-  write-gave e = zero-gave (refusals writeLine) (43 ∷ ofMoves) refl refl wrote-it (w .before .1) (write-stops (w .input .0) (w .input .1) (length (w .before .0))) (sym write-number ∙ e)
+  write-gave e = zero-gave writeRefusals (43 ∷ ofMoves) refl refl wrote-it (w .before .1) (write-stops (w .input .0) (w .input .1) (w .before .0)) (sym write-number ∙ e)
 
   module _ {text : List ℕ} (e : wrote-it ≡ gives text) where
     pub write-so : left (w .number) (w .after) ≡ writtenBy (gives text) (w .before .0) (w .before .1)

@@ -1,11 +1,13 @@
 -- Which numbers an answer is refused with.
 use mathlib.Core.Path.{_≡_, refl, sym, ap, _∙_, subst}
-use mathlib.Core.Bool.{Bool, true, false, _||_, or-true}
+use mathlib.Core.Bool.{Bool, true, false, not, _||_, or-true}
 use mathlib.Core.List.{List, [], _∷_}
 use Prim.Native.Nat.{ℕ}
-use borrow.Author.Tests.{eq-eqb}
+use borrow.Author.Tests.{eq-eqb, eqb-true}
 use lib.Dec.{eqb}
+use Rattle.base.specs.Words.{all}
 use Rattle.base.specs.Answer.{Answer, given, refused, unless}
+use Rattle.base.proofs.Words.{true-or-not, first, second}
 use Rattle.board.specs.Table.{Table, cardsOn}
 use Rattle.board.specs.Verdict.{Verdict, fine, after, onlyCards, noneTwice, noneMissing, verdictOn}
 use Rattle.board.specs.Record.{shapely, examined, shown}
@@ -19,6 +21,20 @@ use Rattle.replay.specs.Step.{recorded, playedOn, stepped}
 use Rattle.demands.specs.Orders.{Test, firstFailing}
 use Rattle.demands.specs.Demand1.{isIn, ofMoves}
 use Rattle.demands.proofs.Ordering.{numbers}
+
+-- a number of a list of which none is handed back is not
+pub apart : (handed : ℕ → Bool) (ns : List ℕ) → all (λ n. not (handed n)) ns ≡ true → (n : ℕ) → isIn n ns ≡ true → handed n ≡ false
+unfolding all
+apart handed [] e n h = true-or-not false h refl
+apart handed (m ∷ ns) e n h = by-head (eqb n m) refl h (apart handed ns (second (not (handed m)) _ e) n)
+  where
+    none : (b : Bool) → not b ≡ true → b ≡ false
+    none false q = refl
+    none true q = true-or-not false q refl
+
+    by-head : (b : Bool) → eqb n m ≡ b → (b || isIn n ns) ≡ true → (isIn n ns ≡ true → handed n ≡ false) → handed n ≡ false
+    by-head true q g on = ap handed (eqb-true n m q) ∙ none (handed m) (first (not (handed m)) _ e)
+    by-head false q g on = on g
 
 module _ (ns : List ℕ) where
   -- a refusal of this answer is one of these

@@ -1,7 +1,7 @@
 -- Request (iv), writing: replay's refusals first, then 43, then 21.
 use mathlib.Core.Path.{_≡_, refl, sym, ap, _∙_, subst}
 use mathlib.Core.Bool.{Bool, true, false}
-use mathlib.Core.List.{List}
+use mathlib.Core.List.{List, [], _∷_}
 use Prim.Native.Nat.{ℕ, _/_, _%_, _<_, _≤_}
 use native.Mathlib.Omega.{arith}
 use borrow.Author.Tests.{le-leb}
@@ -32,15 +32,21 @@ use Rattle.crossing.specs.Crossing.{Left, left, told, crossed, asked}
 use Rattle.crossing.specs.Boards.{lineLeft, replayLeft}
 use Rattle.crossing.specs.Papers.{countLeft}
 use Rattle.corbelnib.specs.Calls.{replay, writeLine, Call, GoodBoard}
-use Rattle.demands.specs.Demand1.{isIn, boards, ofMoves, hands}
+use Rattle.demands.specs.Orders.{boards, roomFor}
+use Rattle.demands.specs.Demand1.{isIn, ofMoves, hands}
 use Rattle.demands.specs.LinesOnPaper.{ReplayOf, IsSixth}
-use Rattle.demands.proofs.Refusing.{Refuses, board-refuses}
-use Rattle.demands.proofs.Crossing.{apart, sized-in, good-fine, good-asked, kept}
-use Rattle.demands.proofs.Demand1.{replay-keeps}
+use Rattle.demands.proofs.Ordering.{numbers, boards-good}
+use Rattle.demands.proofs.Refusing.{Refuses, board-refuses, apart}
+use Rattle.demands.proofs.Crossing.{sized-in, good-fine, good-asked}
+use Rattle.demands.proofs.Demand1.{demand1}
 use Rattle.demands.proofs.Papers.{line-refuses}
 use Rattle.demands.proofs.PaperCalls.{asked-on, wrote-it, write-end, write-done, write-refused, write-refused-at}
 
 -- ---- replay's refusals
+
+-- the numbers of a board that is refused: 12 to 15
+abbrev ofBoards : List ℕ
+ofBoards = numbers (boards [])
 
 module _ (k p : ℕ) (o : Outcome (List ℕ)) where
   -- a bad move's number, with its place
@@ -53,12 +59,12 @@ module _ (k p : ℕ) (o : Outcome (List ℕ)) where
 abbrev Alike : Left (List ℕ × ℕ) → Left ℕ → Type 0
 Alike x w = (x .number ≡ 0 → ⊥) → (w .number ≡ x .number) × (isIn (x .number) ofMoves ≡ true → w .places ≡ x .places .1)
 
-alike : (whole : Bool) (v : Verdict) (line : Bool) (e : Ending) (o : Outcome (List ℕ)) (room : List ℕ) (n k : ℕ) → Refuses boards v → boardRoom ≤ length room
+alike : (whole : Bool) (v : Verdict) (line : Bool) (e : Ending) (o : Outcome (List ℕ)) (room : List ℕ) (n k : ℕ) → Refuses ofBoards v → boardRoom ≤ length room
     → Alike (lineLeft (unless whole 12 (after v (unless line 31 (given e)))) room n)
     (countLeft (counted (checked (unless whole 12 fine) (checked (after v (unless line 31 fine)) (playedThrough e o)))) k)
 unfolding lineLeft all
 alike false v line e o room n k r h d = (refl, λ q. true-or-not false q refl)
-alike true (refused m) line e o room n k r h d = (refl, λ q. true-or-not (isIn m ofMoves) q (apart (λ i. isIn i ofMoves) boards refl m r))
+alike true (refused m) line e o room n k r h d = (refl, λ q. true-or-not (isIn m ofMoves) q (apart (λ i. isIn i ofMoves) ofBoards refl m r))
 alike true (given u) false e o room n k r h d = (refl, λ q. true-or-not false q refl)
 alike true (given u) true e o room n k r h d = by (leb boardRoom (length room)) (le-leb boardRoom (length room) h) d
   where
@@ -91,13 +97,13 @@ module _ (w : Call writeLine) (x : Call replay) (p : ReplayOf w x) where
       (alike (eqb (length (w .input .0)) boardRoom) (examined b) (isLine (w .input .1)) ending
       (writtenThrough (movesIn (w .input .1)) (checked (unless (leb textRoom (length (w .before .0))) 21 fine) (gives (textOf (shown b) (movesIn (w .input .1))))))
       (x .before .0) (x .before .1) (w .before .1)
-      (board-refuses boards refl refl refl refl b) (p .room)))
+      (board-refuses ofBoards refl refl refl refl b) (p .room)))
 
   -- ---- a list that can be replayed
 
   module _ (done : x .number ≡ 0) where
     good : GoodBoard (w .input .0)
-    good = subst GoodBoard (ap (λ (i : List ℕ × List ℕ). i .0) (p .input)) (kept replay x (replay-keeps x) .examines (ap (hands replay) done))
+    good = subst GoodBoard (ap (λ (i : List ℕ × List ℕ). i .0) (p .input)) (boards-good (x .input .0) ((isLine (x .input .1), 31) ∷ roomFor boardRoom (x .before .0)) (demand1 .examines x (ap (hands replay) done)) .0)
 
     replay-good : left (x .number) (x .after) ≡ lineLeft (unless (isLine (w .input .1)) 31 (given ending)) (x .before .0) (x .before .1)
     replay-good =

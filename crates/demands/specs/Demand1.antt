@@ -13,7 +13,7 @@ use Rattle.intake.specs.Number.{isNumber}
 use Rattle.base.specs.Blank.{blank}
 use Rattle.crossing.specs.Numbers.{isAnswer}
 use Rattle.corbelnib.specs.Calls.{Entry, examine, read, deal, number, move, replay, chain, moves, candidates, token, priority, scores, signature, features, capacity, judge, readLine, writeLine, season, add, top, cell, home, most, won, safe, version}
-use Rattle.corbelnib.specs.Calls.{boundary, In, Places, Call, GoodBoard, capacityIn, settingsBy}
+use Rattle.corbelnib.specs.Calls.{In, Places, Call, GoodBoard, capacityIn, settingsBy}
 use Rattle.moves.specs.Written.{listRoom}
 use Rattle.solver.specs.Searched.{mostPops}
 use Rattle.sheets.specs.Figures.{sheetRoom}
@@ -103,6 +103,11 @@ pub record ClearedAll (c : Call season) : Type 0 where
   pub heap : c .after .heap ≡ blank (c .before .heap)
   pub keys : c .after .keys ≡ blank (c .before .keys)
   pub costs : c .after .costs ≡ blank (c .before .costs)
+
+-- all of the functions that C can call (tools/boundary.sh holds this list against the code and the header)
+unfoldable pub boundary : List Entry
+boundary =
+    examine ∷ read ∷ deal ∷ number ∷ move ∷ replay ∷ chain ∷ moves ∷ candidates ∷ token ∷ priority ∷ scores ∷ signature ∷ features ∷ capacity ∷ judge ∷ readLine ∷ writeLine ∷ season ∷ add ∷ top ∷ cell ∷ home ∷ most ∷ won ∷ safe ∷ version ∷ []
 
 -- which of the twenty-seven a function is
 abbrev pub placeOf : Entry → ℕ
