@@ -1,11 +1,12 @@
 # The library and the command `corbelnib` (README.md).
 #   make                   builds both; the command is target/command/corbelnib, and ./corbelnib is a link to it
 #   make syntax            everything in C compiled with every warning an error, plainly and with the sanitizers; needs no library
-#   make check             the tests of the command, of the C boundary and of docs/FOR-TABLES.md (tests/README.md)
+#   make check             the tests of the command, of the C boundary (held to the original) and of docs/FOR-TABLES.md (tests/README.md)
 #   make check-sanitized   the same with the address and undefined-behaviour sanitizers in the command's own code, and 100,000 damaged inputs
 #   make check-masters     true answers two by two, held to demand 3
 #   make check-fc-solve    hands 1 to 100 beside fc-solve (Debian's package freecell-solver-bin)
 #   make install PREFIX=.. command, library, header, pkg-config file and man page (DESTDIR is put before all paths)
+# CORBELNIB_RUST, if set, is the original's folder solver-core-rs/src: make check then builds bench/ and compare/ too (needs cargo).
 # CORBELNIB_ARCHIVE, if set, is a folder with a libcorbelnib.a that is taken as it is; else tools/archive.sh proves and builds it. What was
 # taken or built lies in target/command and serves until the library's sources are newer.
 
@@ -66,7 +67,7 @@ $(build)/masters: tests/masters.c $(functions) $(headers) $(archive)
 	$(compile) $(CFLAGS) tests/masters.c $(functions) $(archive) -o $@
 
 syntax:
-	for file in $(sources) tests/*.c examples/*.c; do $(compile) -I command -fsyntax-only $$file && \
+	for file in $(sources) tests/*.c examples/*.c bench/*.c; do $(compile) -I command -fsyntax-only $$file && \
 	    $(compile) -I command $(sanitizers) -fsyntax-only $$file || exit 1; done
 
 $(build)/lent: tests/lent.c include/corbelnib.h $(archive)
@@ -77,14 +78,34 @@ $(sanitized)/lent: tests/lent.c include/corbelnib.h $(archive)
 	mkdir -p $(sanitized)
 	$(compile) $(sanitizers) tests/lent.c $(archive) -o $@
 
-check: $(build)/corbelnib $(build)/lent
+# programs whose output is held to that of the original (tests/oracles)
+oracles = $(patsubst tests/oracles/%.out,%,$(wildcard tests/oracles/*.out))
+
+$(oracles:%=$(build)/%): $(build)/%: tests/%.c tests/oracle.c tests/oracle.h include/corbelnib.h $(archive)
+	mkdir -p $(build)
+	$(compile) $(CFLAGS) $< tests/oracle.c $(archive) -o $@
+
+$(oracles:%=$(sanitized)/%): $(sanitized)/%: tests/%.c tests/oracle.c tests/oracle.h include/corbelnib.h $(archive)
+	mkdir -p $(sanitized)
+	$(compile) $(sanitizers) $< tests/oracle.c $(archive) -o $@
+
+# the programs beside the original Rust are built, so that they do not rot; this needs cargo and the original, which is not in this repository
+beside_the_original: $(archive)
+ifdef CORBELNIB_RUST
+	CORBELNIB_ARCHIVE=$(CURDIR)/$(build) sh bench/run.sh "$(CORBELNIB_RUST)" build
+	CORBELNIB_ARCHIVE=$(CURDIR)/$(build) sh compare/run.sh "$(CORBELNIB_RUST)" boards=1 > /dev/null
+endif
+
+check: $(build)/corbelnib $(build)/lent $(oracles:%=$(build)/%) beside_the_original
 	$(build)/lent
+	sh tests/oracles.sh $(build)
 	CORBELNIB_ARCHIVE=$(CURDIR)/$(build) CC="$(CC)" sh tests/for-tables.sh
 	COMMAND=$(CURDIR)/$(build)/corbelnib sh tests/papers.sh
 	COMMAND=$(CURDIR)/$(build)/corbelnib sh tests/run.sh
 
-check-sanitized: $(sanitized)/corbelnib $(sanitized)/damage $(sanitized)/lent
+check-sanitized: $(sanitized)/corbelnib $(sanitized)/damage $(sanitized)/lent $(oracles:%=$(sanitized)/%)
 	$(no_leaks) $(sanitized)/lent
+	$(no_leaks) sh tests/oracles.sh $(sanitized)
 	$(no_leaks) SANITIZED=yes COMMAND=$(CURDIR)/$(sanitized)/corbelnib sh tests/run.sh
 	$(no_leaks) $(sanitized)/damage 100000 1 tests/seeds/*
 
@@ -109,4 +130,4 @@ uninstall:
 clean:
 	rm -rf $(build) $(sanitized) corbelnib
 
-.PHONY: all syntax check check-sanitized check-masters check-fc-solve install uninstall clean
+.PHONY: all syntax check beside_the_original check-sanitized check-masters check-fc-solve install uninstall clean

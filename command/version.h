@@ -5,7 +5,7 @@
 #include "corbelnib.h"
 
 #ifndef CORBELNIB_VERSION
-#define CORBELNIB_VERSION "0.6.0"
+#define CORBELNIB_VERSION "0.6.1"
 #endif
 
 #endif

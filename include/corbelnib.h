@@ -30,8 +30,9 @@
 #include <stddef.h>
 #include <stdint.h>
 
-/* Of this header, the library and the command. */
-#define CORBELNIB_VERSION "0.6.0"
+/* Of this header, the library and the command; as a number ten thousand for each major version, a hundred for each minor one. */
+#define CORBELNIB_VERSION "0.6.1"
+#define CORBELNIB_VERSION_NUMBER 601
 
 #ifdef __cplusplus
 extern "C" {
@@ -308,6 +309,10 @@ uint8_t corbelnib_signature(const uint8_t *board, size_t board_length, uint64_t 
 /* Writes the progress token, as f:51|i:1|u:0|e:7|r:1|b:0|m:1, to the start of `text`, with no 0 behind it, and tells in
  * `*count` how many bytes it has; bytes beyond stay. Refusals: 12 to 15, then 21 if `text` has fewer than 32 bytes. */
 uint8_t corbelnib_token(const uint8_t *board, size_t board_length, uint8_t *text, size_t text_length, size_t *count);
+
+/* The version of the library that was linked: CORBELNIB_VERSION_NUMBER of the header that belongs to it. Two controllers whose numbers differ may
+ * answer differently. */
+uint32_t corbelnib_version(void);
 
 /* How many nodes scratch parts of these lengths hold: the least of nodes / 3, heap, keys / 2, costs / 2 and 2^32 - 1. */
 size_t corbelnib_capacity(size_t nodes_length, size_t heap_length, size_t keys_length, size_t costs_length);

@@ -1,7 +1,9 @@
 #!/bin/sh
 # Holds docs/PROMISES.md to the code: each public function of the library is named in one of its tables of functions, and no other
 # is. A function is CRATE::NAME, CRATE::MODULE::NAME or CRATE::TYPE::NAME, one for C its name alone; a name without a path that follows
-# another in its cell has that one's path.
+# another in its cell has that one's path. And holds its laws to the proofs: each name in the column 'one result by', in the first column of
+# the other tables (the second too for demands and requests), and each name with a hyphen anywhere is declared in some crate's proofs/ or specs/
+# (`old-..` stands for all that begin so); each file of proofs or definitions that it names by a path is there.
 # tools/promises.sh prints what differs and fails if anything does.
 set -eu
 cd "$(dirname "$0")/.."
@@ -40,7 +42,48 @@ in_paper() {
         }' docs/PROMISES.md
 }
 
+# The names of laws.
+laws() {
+    awk -F '|' '
+        function words(text, every,    count, list, i) {
+            count = split(text, list, "`")
+            for (i = 2; i <= count; i += 2)
+                if (list[i] ~ (every ? "^[A-Za-z0-9.-]+$" : "^[A-Za-z0-9]+-[A-Za-z0-9.-]+$")) print list[i]
+        }
+        { words($0, 0) }
+        !/^\|/ { head = ""; next }
+        head == "" { head = $2; next }
+        head == " function " { words($(NF - 1), 1); next }
+        { words($2, 1) }
+        head ~ /demand|request/ { words($3, 1) }' docs/PROMISES.md | LC_ALL=C sort -u
+}
+
+# What is declared in proofs and definitions: laws, definitions, records and their fields.
+declared() {
+    cat crates/*/proofs/*.antt crates/*/specs/*.antt |
+        sed -n -E 's/^ *((unfoldable|abbrev|pub|record|data) )*([^ :({]+) ([:({].*|where)$/\3/p' | LC_ALL=C sort -u
+}
+
+# The files of proofs and definitions that are named by a path, which begins with their crate or above it.
+files() {
+    tr -c 'A-Za-z0-9_/.' '\n' <docs/PROMISES.md | sed -n -E 's/^(crates\/)?([a-z_]+\/(proofs|specs)\/[A-Za-z0-9_\/]+\.antt)\.?$/crates\/\2/p' | sort -u
+}
+
 status=0
+all=$(declared)
+for name in $(laws); do
+    case $name in
+    *-..) echo "$all" | grep -q "^${name%..}" && continue ;;
+    *) echo "$all" | grep -qFx -e "$name" && continue ;;
+    esac
+    echo "docs/PROMISES.md names $name, which no proof or definition declares" >&2
+    status=1
+done
+for file in $(files); do
+    [ -f "$file" ] && continue
+    echo "docs/PROMISES.md names $file, which is no file" >&2
+    status=1
+done
 code=$(in_code | sort)
 paper=$(in_paper | sort)
 differing() { # THESE OTHERS

@@ -1,6 +1,6 @@
 #!/bin/sh
-# Lists the files that have to be believed: what the contracts of the C functions and the three demands import, in reading order, each
-# with its head line; then the types of the code that they name.
+# Lists the files that have to be believed, each with its head line: those that say the demands and the requests, then what they and the
+# contracts of the C functions import, in reading order, then the types of the code that they name.
 # tools/reading.sh prints the list; tools/reading.sh --check fails if docs/READING.md does not hold it.
 set -eu
 cd "$(dirname "$0")/.."
@@ -30,16 +30,33 @@ while [ -n "$todo" ]; do
     todo=$(echo $next)
 done
 
+# the files of a crate that were found, each with its head line
+files() { # CRATE
+    for name in $(sed -n 's/^pub mod //p' "crates/$1/specs/Lib.antt" 2>/dev/null); do
+        case $seen in
+        *" $1/$name "*) echo "- crates/$1/specs/$name.antt: $(sed -n '1s/^-- //p' "crates/$1/specs/$name.antt")" ;;
+        esac
+    done
+}
+
+crates=$(sed -n 's/^\([a-z_]*\):.*/\1/p' crates.txt)
+
+# first what says the demands and the requests, over calls through C; then the words that these are written in; then types of the code
 list() {
-    for crate in $(sed -n 's/^\([a-z_]*\):.*/\1/p' crates.txt); do
-        for name in $(sed -n 's/^pub mod //p' "crates/$crate/specs/Lib.antt" 2>/dev/null); do
-            case $seen in
-            *" $crate/$name "*) echo "- crates/$crate/specs/$name.antt: $(sed -n '1s/^-- //p' "crates/$crate/specs/$name.antt")" ;;
-            esac
-        done
+    echo "### The demands, the requests, and the calls that they speak of"
+    echo
+    files corbelnib | grep '/Calls\.antt:'
+    files demands
+    echo
+    echo "### Their glossary, in reading order"
+    echo
+    for crate in $crates; do
+        [ "$crate" = demands ] || files "$crate" | grep -v '^- crates/corbelnib/specs/Calls\.antt:'
     done
     echo
-    for crate in $(sed -n 's/^\([a-z_]*\):.*/\1/p' crates.txt); do
+    echo "### Types of the code that they name"
+    echo
+    for crate in $crates; do
         types=$(for module in $seen; do echo "$module"; done | sed -n "s/^$crate\/declared\.//p" | sort | tr '\n' ' ')
         [ -z "$types" ] || echo "- crates/$crate/src: ${types% }"
     done

@@ -1,19 +1,22 @@
 // Calls of every function for C, with answers and refusals, that the gate holds ours to without the original: input and
-// expected output of the program crates/oracle_calls, whose src/main.rt says how they are laid out.
+// expected output of the program tests/oracle_calls.c, which says how they are laid out.
 use crate::answers::{self, Settings};
 use crate::boards::{self, moves_by_kind, played};
+use crate::broken::{self, Put};
 use crate::codes::{self, BOARD, EMPTY};
 use crate::draws::Draws;
 use crate::original::common::card::{Card, Suit};
 use crate::original::freecell::board::FreeCellBoard;
 use crate::original::freecell::solver;
-use crate::refusals::{self, Asked, FEATURES, LIST, MOST_NUMBER, MOST_POPS, RECORDS, TOKEN};
+use crate::refusals::{
+    self, Asked, FEATURES, LIST, MOST_NUMBER, MOST_POPS, RECORD, RECORDS, TOKEN,
+};
 use crate::sheet::Sheet;
 use crate::tasks::Run;
 use crate::worked;
 use std::collections::{BTreeMap, BTreeSet};
 
-const NAMES: [&str; 16] = [
+const NAMES: [&str; 22] = [
     "examine",
     "read",
     "deal",
@@ -30,6 +33,12 @@ const NAMES: [&str; 16] = [
     "capacity",
     "judge",
     "number",
+    "top",
+    "cell",
+    "home",
+    "most",
+    "won",
+    "safe",
 ];
 // what lent memory holds before a call, and how much of each the program has
 const MARK: u8 = 165;
@@ -37,14 +46,14 @@ const ROOM: usize = 4_200;
 const FEATURES_ROOM: usize = 9;
 const SCRATCH: [usize; 4] = [8, 3, 6, 6];
 
-// A function, how much room it is lent, so many bytes of a board with one byte put, and what else it is given.
+// A function, how much room it is lent, so many bytes of a board with bytes put, and what else it is given.
 #[derive(Clone)]
 struct Call {
     function: &'static str,
     room: usize,
     board: FreeCellBoard,
     given: usize,
-    put: Option<(usize, u8)>,
+    puts: Vec<Put>,
     kind: u8,
     bytes: Vec<u8>,
 }
@@ -57,6 +66,7 @@ fn least(function: &str) -> usize {
         "token" => TOKEN,
         "features" => FEATURES,
         "judge" => LIST,
+        "safe" => RECORD,
         _ => 0,
     }
 }
@@ -67,7 +77,7 @@ fn call(function: &'static str, board: &FreeCellBoard) -> Call {
         room: least(function),
         board: board.clone(),
         given: BOARD,
-        put: None,
+        puts: Vec::new(),
         kind: 0,
         bytes: Vec::new(),
     }
@@ -99,31 +109,27 @@ fn told<T: ToString>(asked: &Asked<T>, stood: T) -> String {
 
 impl Call {
     fn board(&self) -> Vec<u8> {
-        let mut board = over(&codes::bytes(&self.board), 0, 440);
-        if let Some((place, byte)) = self.put {
-            board[place] = byte;
-        }
-        board.truncate(self.given);
-        board
+        broken::board(&self.board, &self.puts, self.given)
+    }
+
+    // The function's number in input and output.
+    fn number(&self) -> u8 {
+        let place = NAMES.iter().position(|&name| name == self.function);
+        1 + place.expect("a function") as u8
     }
 
     fn input(&self) -> Vec<u8> {
-        let function = 1 + NAMES
-            .iter()
-            .position(|&name| name == self.function)
-            .unwrap();
-        let (place, byte) = self.put.unwrap_or((usize::from(u16::MAX), 0));
         let pair = |n: usize| u16::try_from(n).unwrap().to_be_bytes();
-        let image = codes::image(&self.board);
-        let mut input = pair(self.bytes.len() + image.len()).to_vec();
-        input.push(function as u8);
-        for number in [self.room, self.given, place] {
+        let told = broken::told(&self.board, &self.puts, self.given);
+        let mut input = pair(self.bytes.len() + told.bytes.len()).to_vec();
+        input.push(self.number() + told.itself);
+        for number in [self.room, self.given, told.put.0] {
             input.extend(pair(number));
         }
-        input.extend([byte, self.kind]);
+        input.extend([told.put.1, self.kind]);
         input.extend(pair(self.bytes.len()));
         input.extend(&self.bytes);
-        input.extend(image);
+        input.extend(told.bytes);
         input
     }
 
@@ -162,6 +168,12 @@ impl Call {
                 (heuristic + &numbers([progress]), Vec::new())
             }
             "signature" => (told(&answers::signature(board), 7), Vec::new()),
+            "top" => (told(&answers::top(board, joined(bytes)), 7), Vec::new()),
+            "cell" => (told(&answers::cell(board, joined(bytes)), 7), Vec::new()),
+            "home" => (told(&answers::home(board, joined(bytes)), 7), Vec::new()),
+            "most" => (told(&answers::most(board, joined(bytes)), 7), Vec::new()),
+            "won" => (told(&answers::won(board), 7), Vec::new()),
+            "safe" => counted(answers::safe(board, room)),
             "features" => {
                 let asked = answers::features(board, room);
                 let number = asked.as_ref().err().copied().unwrap_or(0);
@@ -203,13 +215,9 @@ impl Call {
     }
 
     fn line(&self) -> String {
-        let function = 1 + NAMES
-            .iter()
-            .position(|&name| name == self.function)
-            .unwrap();
         let (numbers_told, written) = self.answer();
         let sum = sum(&over(&written, MARK, ROOM));
-        format!("{function} {numbers_told}{sum} \n")
+        format!("{} {numbers_told}{sum} \n", self.number())
     }
 
     fn room(mut self, room: usize) -> Call {
@@ -224,6 +232,11 @@ impl Call {
 
     fn bytes(mut self, bytes: &[u8]) -> Call {
         self.bytes = bytes.to_vec();
+        self
+    }
+
+    fn puts(mut self, puts: &[Put]) -> Call {
+        self.puts = puts.to_vec();
         self
     }
 }
@@ -328,40 +341,35 @@ fn long_lists(draws: &mut Draws, board: &FreeCellBoard) -> Vec<Call> {
         .to_vec()
 }
 
-// Every function that takes a board, with boards that are none: 12 in five ways, 13, 14, 15.
-fn damaged(board: &FreeCellBoard) -> Vec<Call> {
-    let cell = board.free_cells.iter().position(Option::is_some).unwrap();
-    let another = codes::code(board.tableau.iter().flatten().next().copied().unwrap());
-    let column = board.tableau.iter().position(|column| column.len() > 1);
-    let card = 16 + codes::COLUMN * column.unwrap();
-    let puts = [
-        (4, 14),
-        (8, 53),
-        (16 + 51, 16),
-        (card, 0x14),
-        (card + 1, another),
-        (cell, EMPTY),
-    ];
+// A call of each of some functions that takes a board, with nothing wrong.
+fn whole<'a>(
+    board: &'a FreeCellBoard,
+    functions: &'a [&'static str],
+) -> impl Iterator<Item = Call> + 'a {
     let record = codes::record(moves_by_kind(board).iter().flatten().next().unwrap());
-    let mut calls = Vec::new();
-    for function in NAMES {
-        let given: &[u8] = match function {
-            "read" | "deal" | "number" | "capacity" => continue,
+    let taking = |&&function: &&&str| !["read", "deal", "number", "capacity"].contains(&function);
+    functions.iter().filter(taking).map(move |function| {
+        let given: &[u8] = match *function {
             "move" | "priority" | "replay" => &record,
             "judge" => &[0, 0, 2, 6, 2, 4, 4],
+            "top" | "cell" | "home" | "most" => &[0; 8],
             _ => &[],
         };
-        let whole = call(function, board).bytes(given).kind(1);
+        call(function, board).bytes(given).kind(1)
+    })
+}
+
+// Each with boards that are none: 12 in five ways, 13, 14, 15.
+fn damaged(board: &FreeCellBoard, functions: &[&'static str]) -> Vec<Call> {
+    let mut calls = Vec::new();
+    for whole in whole(board, functions) {
         for given in [BOARD - 1, BOARD + 1] {
             calls.push(Call {
                 given,
                 ..whole.clone()
             });
         }
-        calls.extend(puts.map(|put| Call {
-            put: Some(put),
-            ..whole.clone()
-        }));
+        calls.extend(broken::once(board).map(|put| whole.clone().puts(&[put])));
     }
     calls
 }
@@ -523,6 +531,203 @@ fn assert_numbers_met(calls: &[Call]) {
     }
 }
 
+// Boards whose suits have different numbers home; column i of board b is empty if bit b of i is set, so that any two columns differ in one.
+fn patterned() -> Vec<FreeCellBoard> {
+    let cells = ["KC - QD -", "- KC - QD", "QD - - KC"];
+    let board = |b: usize| {
+        let mut piles = ["TC KS", "JC JD", "QC KH", "KD QH"].into_iter();
+        let columns = [0, 1, 2, 3, 4, 5, 6, 7].map(|i| match i >> b & 1 {
+            0 => piles.next().expect("four columns"),
+            _ => "",
+        });
+        worked::laid([9, 10, 11, 12], cells[b], columns)
+    };
+    (0..3).map(board).collect()
+}
+
+// What a table asks: every place, and some that are none (two of them end as a place does, for who looks at 8 or 32 bits only); whether it
+// is won; the first safe move.
+fn questions(board: &FreeCellBoard) -> Vec<Call> {
+    let places = (0..=8).chain([256 + 3, (1 << 32) + 3, usize::MAX]);
+    let at = |place: usize| {
+        ["top", "cell", "home", "most"]
+            .map(|function| call(function, board).bytes(&place.to_be_bytes()))
+    };
+    let mut calls: Vec<Call> = places.flat_map(at).collect();
+    calls.push(call("won", board));
+    calls.extend(in_rooms(call("safe", board)));
+    calls
+}
+
+// What breaks two things or more at once, so that each function is asked every two neighbours of its order: 12 to 15 among
+// themselves; 15 and all that the function itself refuses; and these among themselves, where no other row has it.
+fn orders(board: &FreeCellBoard) -> Vec<Call> {
+    let mut calls = Vec::new();
+    for whole in whole(board, &NAMES) {
+        calls.push(Call {
+            given: BOARD - 1,
+            ..whole.clone().puts(&[broken::no_card(board)])
+        });
+        calls.extend(broken::twice(board).map(|puts| whole.clone().puts(&puts)));
+        calls.push(all_wrong(whole).puts(&[broken::missing(board)]));
+    }
+    calls.extend(images_in_order(board));
+    calls.extend(decks_in_order(board));
+    calls.extend(lists_in_order(board));
+    calls.extend(moves_in_order());
+    calls.extend(searches_in_order(board));
+    calls
+}
+
+// A call with everything wrong but its board.
+fn all_wrong(call: Call) -> Call {
+    let none = (BOARD as u64).to_be_bytes();
+    let over = [&number(MOST_POPS + 1)[..], &[2, 1, 2, 2]].concat();
+    let bytes: &[u8] = match call.function {
+        "move" | "priority" => &[7, 0, 0, 1, 16],
+        "replay" => &[7, 0, 0, 1],
+        "judge" => &over,
+        "top" | "cell" | "home" | "most" => &none,
+        _ => &[],
+    };
+    call.bytes(bytes).kind(7).room(0)
+}
+
+// Images: 10 before 11, 11 before 12, and so on; and each before 21.
+fn images_in_order(board: &FreeCellBoard) -> Vec<Call> {
+    let image = codes::image(board);
+    let changed = |puts: &[Put]| {
+        let mut image = image.clone();
+        puts.iter().for_each(|&(place, byte)| image[place] = byte);
+        image
+    };
+    let cut = |image: Vec<u8>| codes::counted(&image[2..image.len() - 1]);
+    let held = board.free_cells.iter().position(Option::is_some).unwrap();
+    let (cell, twice) = (3 + held, (13, codes::cell_code(board.free_cells[held])));
+    let images = [
+        (10, changed(&[(1, 0), (2, 2)])),
+        (11, cut(changed(&[(2, 2)]))),
+        (12, cut(changed(&[(cell, 0)]))),
+        (12, changed(&[(7, 14), (cell, 0)])),
+        (12, changed(&[(7, 14), twice])),
+        (13, changed(&[(12, 0x14), twice])),
+        (14, changed(&[twice])),
+        (15, changed(&[(cell, EMPTY)])),
+    ];
+    let asked = images.iter().flat_map(|(number, image)| {
+        assert_eq!(refusals::image(image).err(), Some(*number));
+        [BOARD, BOARD - 1].map(|room| call("read", board).bytes(image).room(room))
+    });
+    asked.collect()
+}
+
+// Decks: 16 before 13, 13 before 14, each before 21.
+fn decks_in_order(board: &FreeCellBoard) -> Vec<Call> {
+    let deck: Vec<u8> = codes::pack().map(codes::code).collect();
+    let with = |puts: &[Put], length: usize| {
+        let mut deck = [&deck[..], &deck[..1]].concat();
+        puts.iter().for_each(|&(place, code)| deck[place] = code);
+        deck.truncate(length);
+        deck
+    };
+    let (no_card, twice) = ((9, 0xe0), (10, deck[11]));
+    let decks = [
+        (16, with(&[no_card], 51)),
+        (16, with(&[no_card, twice], 53)),
+        (13, with(&[no_card, twice], 52)),
+        (14, with(&[twice], 52)),
+    ];
+    let asked = decks.iter().flat_map(|(number, deck)| {
+        assert_eq!(refusals::deal(deck).err(), Some(*number));
+        [BOARD, BOARD - 1].map(|room| call("deal", board).bytes(deck).room(room))
+    });
+    asked.collect()
+}
+
+// Lists: 31 before 21, and before the first move is looked at; 21 before it too.
+fn lists_in_order(board: &FreeCellBoard) -> Vec<Call> {
+    let bad = [7, 0, 0, 1, 16];
+    let asked = [
+        (&bad[..4], BOARD - 1),
+        (&bad[..4], BOARD),
+        (&bad, BOARD - 1),
+    ];
+    let longer = [&bad[..], &[0]].concat();
+    let over = bad.repeat(LIST / 5 + 1);
+    let asked = asked
+        .into_iter()
+        .chain([(&longer[..], BOARD), (&over[..], BOARD - 1)]);
+    asked
+        .map(|(list, room)| call("replay", board).bytes(list).room(room))
+        .collect()
+}
+
+// Every number of a move before 21.
+fn moves_in_order() -> Vec<Call> {
+    let mut calls = Vec::new();
+    for example in worked::examples() {
+        let short = |record: &[u8]| call("move", &example.board).bytes(record).room(BOARD - 1);
+        calls.extend(example.given.iter().map(|&(_, record)| short(record)));
+    }
+    calls
+}
+
+// 20 before 21, before 22, and 21 before 22.
+fn searches_in_order(board: &FreeCellBoard) -> Vec<Call> {
+    let ask = |budget: usize, scratch: [u8; 4], room: usize| {
+        let bytes = [&number(budget)[..], &scratch].concat();
+        call("judge", board).bytes(&bytes).room(room)
+    };
+    let (some, none) = ([3, 1, 2, 2], [3, 0, 2, 2]);
+    vec![
+        ask(MOST_POPS + 1, some, LIST - 1),
+        ask(MOST_POPS + 1, none, LIST),
+        ask(MOST_POPS, none, LIST - 1),
+    ]
+}
+
+// On some board any two columns, any two cells and any two suits are told apart, and each is met with a card and without one.
+fn assert_places_apart(boards: &[FreeCellBoard]) {
+    let of = |ask: &dyn Fn(&[u8], usize) -> Asked<usize>, places: usize| {
+        let told = |board: &FreeCellBoard| -> Vec<usize> {
+            let bytes = codes::bytes(board);
+            (0..places)
+                .map(|place| ask(&bytes, place).unwrap())
+                .collect()
+        };
+        let all: Vec<Vec<usize>> = boards.iter().map(told).collect();
+        for i in 0..places {
+            assert!((0..i).all(|j| all.iter().any(|told| told[i] != told[j])));
+        }
+        all.concat()
+    };
+    let tops = of(
+        &|board, place| answers::top(board, place).map(usize::from),
+        8,
+    );
+    let cells = of(
+        &|board, place| answers::cell(board, place).map(usize::from),
+        4,
+    );
+    of(&answers::home, 4);
+    of(&answers::most, 8);
+    let empty = usize::from(EMPTY);
+    for (told, places) in [(tops, 8), (cells, 4)] {
+        for place in 0..places {
+            let met: Vec<bool> = told
+                .iter()
+                .skip(place)
+                .step_by(places)
+                .map(|&n| n == empty)
+                .collect();
+            assert!(
+                met.contains(&true) && met.contains(&false),
+                "place {place} of {places}"
+            );
+        }
+    }
+}
+
 // Any two features differ on some board.
 fn assert_features_apart(boards: &[FreeCellBoard]) {
     let all: Vec<[u64; 7]> = boards.iter().map(solver::features).collect();
@@ -543,13 +748,20 @@ fn all_calls(run: &Run) -> Vec<Call> {
         calls.extend(replayed(&mut draws, board));
     }
     calls.extend(long_lists(&mut draws, &boards[3]));
-    calls.extend(damaged(&boards[4]));
+    calls.extend(damaged(&boards[4], &NAMES[..16]));
     calls.extend(images(&boards[4]));
     calls.extend(decks(&mut draws, &boards[0]));
     calls.extend(capacities(&boards[0]));
     calls.extend(judgings(&boards));
     calls.extend(hands(&boards[0]));
     calls.extend(refused_moves());
+    // no card in a column, and not won
+    let held = worked::laid([13, 13, 13, 12], "- - KS -", [""; 8]);
+    let asked = [&boards[..], &patterned(), &[held]].concat();
+    assert_places_apart(&asked);
+    calls.extend(asked.iter().flat_map(questions));
+    calls.extend(damaged(&boards[4], &NAMES[16..]));
+    calls.extend(orders(&boards[4]));
     calls
 }
 
@@ -571,5 +783,5 @@ pub fn write(run: &Run) -> std::io::Result<()> {
     for (function, numbers) in met {
         println!("  {function}: {numbers:?}");
     }
-    sheet.write("oracle_calls")
+    sheet.write_in_c("oracle_calls")
 }

@@ -28,7 +28,7 @@ impl Came {
 }
 
 // A text, what it gives on S, and on M.
-const ON_S_AND_M: [(&str, Came, Came); 20] = [
+const ON_S_AND_M: [(&str, Came, Came); 21] = [
     ("12", Read(&[[1, 0, 1, 1, 211]]), Read(&[[1, 0, 1, 3, 179]])),
     ("12v1", At(30, 0), Read(&[[1, 0, 1, 1, 147]])),
     ("12v2", At(30, 0), Read(&[[1, 0, 1, 2, 162]])),
@@ -40,6 +40,8 @@ const ON_S_AND_M: [(&str, Came, Came); 20] = [
     // before 33
     ("22", At(30, 0), At(30, 0)),
     ("21", At(33, 0), At(33, 0)),
+    // before its count is looked at
+    ("21v1", At(33, 0), At(33, 0)),
     ("2h", At(33, 0), At(33, 0)),
     ("ah", At(33, 0), Read(&[[5, 0, 2, 1, 146]])),
     ("a1", At(33, 0), At(38, 0)),
@@ -65,6 +67,18 @@ const ON_F: [(&str, Came); 5] = [
     ("a2", At(38, 0)),
     ("1a", At(39, 0)),
     ("12v1", At(30, 0)),
+];
+
+// On R, a run of thirteen and room for it: counts of two digits.
+const ON_R: [(&str, Came); 7] = [
+    ("12", Read(&[[1, 0, 1, 13, 211]])),
+    ("12vc", Read(&[[1, 0, 1, 12, 194]])),
+    ("12vb", Read(&[[1, 0, 1, 11, 179]])),
+    ("12va", Read(&[[1, 0, 1, 10, 162]])),
+    ("12v9", Read(&[[1, 0, 1, 9, 147]])),
+    // not below the most
+    ("12vd", At(30, 0)),
+    ("12vf", At(30, 0)),
 ];
 
 // On any board: 42, with the place of the first wrong character.
@@ -132,6 +146,13 @@ fn f() -> FreeCellBoard {
     laid([8; 4], "KC KD KH KS", columns)
 }
 
+fn r() -> FreeCellBoard {
+    let spade = "KS QH JS TH 9S 8H 7S 6H 5S 4H 3S 2H AS";
+    let heart = "KH QS JH TS 9H 8S 7H 6S 5H 4S 3H 2S AH";
+    let columns = [spade, "", heart, "", "", "", "", ""];
+    laid([13, 13, 0, 0], "- - - -", columns)
+}
+
 type Asked = (FreeCellBoard, Vec<u8>);
 
 // The king of S to and fro, this many moves.
@@ -162,6 +183,9 @@ fn long() -> Vec<(Vec<u8>, Paper)> {
         (with(200, " 12v"), At(42, 603).paper()),
         (with(199, " 2h"), At(33, 199).paper()),
         (first_bad, Alone(31).paper()),
+        // over the bytes of 200 moves too
+        (with(400, "x"), At(42, 1_199).paper()),
+        (with(400, ""), Alone(31).paper()),
     ]
 }
 
@@ -177,13 +201,14 @@ pub fn longest() -> [Vec<u8>; 2] {
 
 // Every text, each with its board. They all give what is written out, or this ends here.
 pub fn texts() -> Vec<Asked> {
-    let (s, m, f) = (worked::s(), worked::m(), f());
+    let (s, m, f, r) = (worked::s(), worked::m(), f(), r());
     let mut all: Vec<(&FreeCellBoard, Vec<u8>, Paper)> = Vec::new();
     for (text, on_s, on_m) in ON_S_AND_M {
         all.push((&s, text.into(), on_s.paper()));
         all.push((&m, text.into(), on_m.paper()));
     }
     all.extend(ON_F.map(|(text, came)| (&f, text.into(), came.paper())));
+    all.extend(ON_R.map(|(text, came)| (&r, text.into(), came.paper())));
     for board in [&s, &m, &f] {
         all.push((board, Vec::new(), Read(&[]).paper()));
         all.extend(WRONG.map(|(text, place)| (board, text.into(), At(42, place).paper())));

@@ -3,6 +3,7 @@
 mod answers;
 mod asks;
 mod boards;
+mod broken;
 mod calls;
 mod codes;
 mod damage;
@@ -19,6 +20,7 @@ mod oracle_boards;
 mod oracle_moves;
 mod oracle_papers;
 mod oracle_scores;
+mod oracle_season;
 mod oracle_signatures;
 mod original;
 mod ours;
@@ -67,10 +69,11 @@ const COMPARED: [(&str, usize); 11] = [
 // What is compared only if it is selected: with solutions of another program, so many hands of them.
 const OTHERS: [(&str, usize); 1] = [("players", 150)];
 // What writes the gate's samples.
-const WRITTEN: [(&str, usize); 5] = [
+const WRITTEN: [(&str, usize); 6] = [
     ("sample", 40),
     ("calls", 1),
     ("lines", 1),
+    ("figures", 1),
     ("oracles", 5),
     ("listings", 1),
 ];

@@ -1,7 +1,8 @@
-// Lines on paper that the gate holds ours to: input and expected output of the program crates/oracle_papers, whose src/main.rt says
+// Lines on paper that the gate holds ours to: input and expected output of the program tests/oracle_papers.c, which says
 // how they are laid out. What is expected is the second reader's and writer's (papers.rs).
 use crate::boards::{self, played};
-use crate::codes::{self, records, BOARD, EMPTY};
+use crate::broken::{self, Put};
+use crate::codes::{self, records, BOARD};
 use crate::draws::Draws;
 use crate::jotted;
 use crate::original::freecell::board::FreeCellBoard;
@@ -23,9 +24,9 @@ struct Call {
     reads: bool,
     room: usize,
     board: FreeCellBoard,
-    // so many bytes of the board are given, with one byte put
+    // so many bytes of the board are given, with bytes put
     given: usize,
-    put: Option<(usize, u8)>,
+    puts: Vec<Put>,
     bytes: Vec<u8>,
 }
 
@@ -35,7 +36,7 @@ fn reading(board: &FreeCellBoard, text: &[u8]) -> Call {
         room: LIST,
         board: board.clone(),
         given: BOARD,
-        put: None,
+        puts: Vec::new(),
         bytes: text.to_vec(),
     }
 }
@@ -54,29 +55,29 @@ impl Call {
         self
     }
 
-    fn board(&self) -> Vec<u8> {
-        let mut board = codes::bytes(&self.board);
-        board.resize(BOARD + 8, 0);
-        if let Some((place, byte)) = self.put {
-            board[place] = byte;
+    fn with(&self, puts: &[Put]) -> Call {
+        Call {
+            puts: puts.to_vec(),
+            ..self.clone()
         }
-        board.truncate(self.given);
-        board
+    }
+
+    fn board(&self) -> Vec<u8> {
+        broken::board(&self.board, &self.puts, self.given)
     }
 
     fn input(&self) -> Vec<u8> {
-        let (place, byte) = self.put.unwrap_or((usize::from(u16::MAX), 0));
         let pair = |n: usize| u16::try_from(n).unwrap().to_be_bytes();
-        let image = codes::image(&self.board);
-        let mut input = pair(self.bytes.len() + image.len()).to_vec();
-        input.push(if self.reads { 1 } else { 2 });
-        for number in [self.room, self.given, place] {
+        let told = broken::told(&self.board, &self.puts, self.given);
+        let mut input = pair(self.bytes.len() + told.bytes.len()).to_vec();
+        input.push(if self.reads { 1 } else { 2 } + told.itself);
+        for number in [self.room, self.given, told.put.0] {
             input.extend(pair(number));
         }
-        input.push(byte);
+        input.push(told.put.1);
         input.extend(pair(self.bytes.len()));
         input.extend(&self.bytes);
-        input.extend(image);
+        input.extend(told.bytes);
         input
     }
 
@@ -114,27 +115,11 @@ fn sum(room: &[u8]) -> u64 {
 
 // Boards that are none: 12 in five ways, 13, 14, 15.
 fn damaged(call: &Call) -> Vec<Call> {
-    let board = &call.board;
-    let column = board.tableau.iter().position(|column| column.len() > 1);
-    let column = column.expect("two cards in a column");
-    let card = 16 + codes::COLUMN * column;
-    let cell = board.free_cells.iter().position(Option::is_some);
-    let puts = [
-        (4, 14),
-        (8, 53),
-        (16 + 51, 16),
-        (card, 0x14),
-        (card + 1, codes::code(board.tableau[column][0])),
-        (cell.expect("a card in a cell"), EMPTY),
-    ];
     let short = [BOARD - 1, BOARD + 1].map(|given| Call {
         given,
         ..call.clone()
     });
-    let put = puts.map(|put| Call {
-        put: Some(put),
-        ..call.clone()
-    });
+    let put = broken::once(&call.board).map(|put| call.with(&[put]));
     [&short[..], &put].concat()
 }
 
@@ -151,12 +136,33 @@ fn counted(draws: &mut Draws) -> Vec<Call> {
             continue;
         }
         let good = [reading(&board, &text), writing(&board, &list)];
-        let bad = [
-            reading(&board, b"x").room(LIST - 1),
-            writing(&board, &[0; 4]).room(TEXT - 1),
-        ];
-        return [&good[..], &bad.iter().flat_map(damaged).collect::<Vec<_>>()].concat();
+        return [
+            &good[..],
+            &all_wrong(&board)
+                .iter()
+                .flat_map(damaged)
+                .collect::<Vec<_>>(),
+        ]
+        .concat();
     }
+}
+
+// Calls with everything wrong but the board.
+fn all_wrong(board: &FreeCellBoard) -> [Call; 2] {
+    [
+        reading(board, b"x").room(LIST - 1),
+        writing(board, &[0; 4]).room(TEXT - 1),
+    ]
+}
+
+// Boards that are none for two reasons; and 31 before the first move is looked at.
+fn orders(calls: &[Call]) -> Vec<Call> {
+    let damaged = calls.iter().find(|call| !call.puts.is_empty());
+    let board = &damaged.expect("a damaged board").board;
+    let twice = |call: &Call| broken::twice(board).map(|puts| call.with(&puts));
+    let mut orders: Vec<Call> = all_wrong(board).iter().flat_map(twice).collect();
+    orders.push(writing(board, &[7, 0, 0, 1, 16, 0]));
+    orders
 }
 
 // Lists with a move of every number behind a good one; a move from a foundation there is 43 if it is allowed.
@@ -187,6 +193,7 @@ fn all_calls(run: &Run) -> Vec<Call> {
     }
     calls.extend(counted(&mut run.draws(12, 0)));
     calls.extend(refused_moves());
+    calls.extend(orders(&calls));
     calls
 }
 
@@ -223,5 +230,5 @@ pub fn write(run: &Run) -> std::io::Result<()> {
         println!("  {}: {met:?}", if reads { "read" } else { "write" });
         assert!(met.keys().eq(numbers), "{numbers:?}");
     }
-    sheet.write("oracle_papers")
+    sheet.write_in_c("oracle_papers")
 }

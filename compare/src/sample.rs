@@ -1,5 +1,5 @@
 // The sample of the original's answers that the gate holds ours to without the original: input and expected output of the
-// program crates/oracle_judge, whose src/main.rt says how they are laid out.
+// program tests/oracle_judge.c, which says how they are laid out.
 use crate::original::freecell::board::FreeCellBoard;
 use crate::original::freecell::solver::{self, deal, Judged};
 use crate::sheet::Sheet;
@@ -154,5 +154,5 @@ pub fn write(run: &Run, tasks: usize) -> std::io::Result<()> {
     for depth in deep::OTHERS {
         otherwise(&cases, depth);
     }
-    sheet.write("oracle_judge")
+    sheet.write_in_c("oracle_judge")
 }

@@ -24,35 +24,6 @@ const KNOWN: Season = Season {
     sheet: SHEET,
 };
 
-// The runs of the gate's program trials_season, whose expected output was recorded from the library: here they are held to the original.
-const fn trial(ends: (usize, usize), budget: usize, partial: u8, nodes: usize) -> Season {
-    Season {
-        ends,
-        budget,
-        partial,
-        lengths: [3 * nodes, 2_000, 4_000, 4_000],
-        sheet: SHEET,
-    }
-}
-
-const TRIALS: [Season; 15] = [
-    trial((41, 59), 300, 0, 2_000),
-    trial((41, 59), 300, 1, 2_000),
-    trial((41, 46), 300, 0, 2_000),
-    trial((47, 47), 300, 1, 2_000),
-    trial((48, 59), 300, 0, 2_000),
-    trial((51, 51), 150, 0, 2_000),
-    trial((51, 51), 150, 1, 2_000),
-    trial((4, 4), 149, 0, 2_000),
-    trial((43, 47), 200, 0, 2_000),
-    trial((47, 47), 200, 0, 2_000),
-    trial((43, 46), 200, 0, 2_000),
-    trial((32_000, 32_000), 10, 0, 2_000),
-    trial((1, 2), 0, 0, 2_000),
-    trial((1, 2), 10, 0, 1),
-    trial((1, 6), 100, 1, 40),
-];
-
 fn is_as_known(words: &[u64]) -> bool {
     words[ANSWERS..POPS] == [19, 0, 0, 6, 0, 0, 0]
         && words[POPS] == 167_137
@@ -63,9 +34,6 @@ fn is_as_known(words: &[u64]) -> bool {
 pub fn season(draws: &mut Draws, task: usize) -> Season {
     if task == 0 {
         return KNOWN;
-    }
-    if let Some(trial) = TRIALS.get(task - 1) {
-        return *trial;
     }
     let ends = ends(draws);
     let partial = draws.one_of(&[0, 0, 0, 1, 2, 255]);

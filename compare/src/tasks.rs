@@ -13,7 +13,8 @@ use crate::{
     seasons, shrink, slips, sums,
 };
 use crate::{
-    listings, oracle_boards, oracle_moves, oracle_papers, oracle_scores, oracle_signatures, texts,
+    listings, oracle_boards, oracle_moves, oracle_papers, oracle_scores, oracle_season,
+    oracle_signatures, texts,
 };
 
 pub struct Run {
@@ -351,6 +352,7 @@ pub fn done(run: &Run, name: &'static str, tasks: usize) -> Result<(), Report> {
         }),
         "calls" => written(name, || calls::write(run)),
         "lines" => written(name, || oracle_papers::write(run)),
+        "figures" => written(name, oracle_season::write),
         "listings" => written(name, listings::write),
         "sample" => written(name, || sample::write(run, tasks)),
         _ => progress::told(name, ORACLES.len(), |progress| {

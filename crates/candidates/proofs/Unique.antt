@@ -1,5 +1,5 @@
--- Every promise of this crate allows one result only (`candidates_of`: generate's `find-once`; the functions that write: its
--- `adds-once`; the others promise `r ≡ d`).
+-- Every promise of this crate allows one result only: `child_to` (`child-once`); of what `tried` and `ordered` list, generate's `find-once` and moves'
+-- `adds-once`.
 use mathlib.Core.Path.{_≡_}
 use Prim.Native.Nat.{ℕ}
 use Rattle.base.proofs.Unique.{once}

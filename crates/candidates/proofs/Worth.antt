@@ -23,8 +23,8 @@ use Rattle.play.specs.Change.{Ready}
 use Rattle.moves.specs.Written.{Adds}
 use Rattle.moves.proofs.Writing.{adds-same}
 use Rattle.score.specs.Weights.{ENDGAME_UNSAFE_FOUNDATION_THRESHOLD}
-use Rattle.score.specs.Features.{featuresOf}
-use Rattle.score.specs.declared.Features.{Features}
+use Rattle.features.specs.Features.{featuresOf}
+use Rattle.features.specs.declared.Features.{Features}
 use Rattle.safe.specs.Safe.{safe, chosen, isSafe, homeMoves}
 use Rattle.candidates.specs.Candidates.{better, worthwhile, isUnsafe, lateMoves}
 use Rattle.candidates.specs.Inner.{meets}

@@ -10,8 +10,8 @@ use Rattle.moves.specs.declared.Move.{Move}
 use Rattle.generate.specs.Found.{found}
 use Rattle.generate.specs.declared.Way.the-variants.{ColumnToColumn, ColumnToCell, CellToColumn, HomeToColumn}
 use Rattle.score.specs.Weights.{ENDGAME_UNSAFE_FOUNDATION_THRESHOLD}
-use Rattle.score.specs.Features.{featuresOf}
-use Rattle.score.specs.declared.Features.{Features}
+use Rattle.features.specs.Features.{featuresOf}
+use Rattle.features.specs.declared.Features.{Features}
 use Rattle.safe.specs.Safe.{chosen, isSafe, homeMoves}
 use Rattle.priority.specs.Priority.{priorityOn}
 

@@ -1,65 +1,22 @@
-// What the search tries on a board, in order, and the children that it makes (after freecell/solver.rs, `find_all_moves` and
-// `expand_moves`, changed: NOTICE).
-ghost use Prim.Native.Nat.{_≤_};
-ghost use lib.ListN.{length};
-ghost use Rattle.board.specs.Record.{shown, laid};
+// What the search tries on a board: specs/ says which moves, and in which order; `tried` lists them, `ordered` puts them in order. Here is
+// the child that one of them makes (after freecell/solver.rs, `expand_moves`, changed: NOTICE).
+ghost use Rattle.board.specs.Record.{laid};
 ghost use Rattle.board.specs.Inner.{Sound};
 ghost use Rattle.play.specs.Change.{Ready};
-ghost use Rattle.moves.specs.Written.{Adds};
-ghost use Rattle.generate.specs.Asked.{Finds};
-ghost use Rattle.candidates.specs.Candidates.{candidates};
-ghost use Rattle.candidates.specs.Inner.{triedRoom, Bears};
-use board::Board;
+ghost use Rattle.candidates.specs.Inner.{Bears};
 use board::CODES;
-use board::Examined;
-use board::Refusal;
-use board::verdict::inspect;
-use generate::RECORD_ROOM;
 use moves::Move;
-use questions::CountAnswer;
 
 // No board has more candidates, and the room for their records.
 pub const MOST_TRIED: usize = 332;
 
 pub const TRIED_ROOM: usize = 5 * MOST_TRIED;
 
-pub mod list;
-pub mod ranks;
-
 // What is asked of a move before it is tried.
 pub enum Test {
     Safe,
     Unsafe,
     Worthwhile,
-}
-
-// The candidates of a well formed board, in order.
-pub fn candidates_at<'a>(
-    cells: &'a [u8; 4],
-    foundation: &'a [u8; 4],
-    counts: &'a [u8; 8],
-    tableau: &'a [u8; CODES],
-    out: &mut [u8],
-) -> usize
-    requires { ⌜ Sound (laid (now cells) (now foundation) (now counts) (now tableau)) ⌝ }
-    requires { ⌜ triedRoom ≤ length (now out) ⌝ }
-    ensures { λ r. ⌜ Adds (now (out .entry)) (now (out .exit)) 0 r (candidates (shown (laid (now (cells .entry)) (now (foundation .entry)) (now (counts .entry)) (now (tableau .entry))))) ⌝ }
-{
-    let before = score::measure::compute_features(cells, foundation, counts, tableau);
-    let mut list = [0u8; TRIED_ROOM];
-    let mut keys = [0u64; MOST_TRIED];
-    let n = list::tried_at(cells, foundation, counts, tableau, before, &mut list);
-    ranks::rank_all(
-        cells,
-        foundation,
-        counts,
-        tableau,
-        before,
-        &list,
-        n,
-        &mut keys,
-    );
-    ranks::emit(&list, &keys, n, out)
 }
 
 // A candidate and the chain after it, played on a board that lies in four arrays: how many moves that is.
@@ -78,18 +35,4 @@ pub fn child_to(
     let after = safe::chain_to(cells, foundation, counts, tableau);
     let moves = after + 1;
     moves
-}
-
-// 12 to 15, 21, or the candidates of a board in order.
-pub fn candidates_of(b: Board, out: &mut [u8]) -> CountAnswer
-    ensures { λ r. ⌜ Finds b (candidates (shown b)) (now (out .entry)) (now (out .exit)) r ⌝ }
-{
-    if let Examined::Refused(why) = inspect(&b.cells, &b.foundation, &b.counts, &b.tableau) {
-        return CountAnswer::Refused(why);
-    }
-    if out.len() < RECORD_ROOM {
-        return CountAnswer::Refused(Refusal::LittleRoom);
-    }
-    let made = candidates_at(&b.cells, &b.foundation, &b.counts, &b.tableau, out);
-    CountAnswer::Count(made)
 }

@@ -11,9 +11,9 @@ use Rattle.moves.specs.declared.Move.{Move}
 use Rattle.frontier.specs.Heap.{Puts}
 use Rattle.frontier.specs.Packing.{packed}
 use Rattle.costs.specs.Promises.{Stores}
-use Rattle.score.specs.Features.{featuresOf}
+use Rattle.features.specs.Features.{featuresOf}
 use Rattle.score.specs.Scores.{heuristicKey, progressKey}
-use Rattle.score.specs.declared.Features.{Features}
+use Rattle.features.specs.declared.Features.{Features}
 use Rattle.nodes.specs.Step.{Added}
 use Rattle.memory.specs.declared.Room.{Room}
 use Rattle.memory.specs.declared.Counts.{Counts}

@@ -6,10 +6,10 @@ use Rattle.board.specs.Record.{shown}
 use Rattle.board.specs.Inner.{Sound}
 use Rattle.board.specs.declared.Board.{Board}
 use Rattle.board.proofs.Fair.{shows-fair}
-use Rattle.score.specs.Features.{Bounded, featuresOf}
+use Rattle.features.specs.Features.{Bounded, featuresOf}
 use Rattle.score.specs.Scores.{heuristicKey}
-use Rattle.score.specs.declared.Features.{Features}
-use Rattle.score.proofs.Bounds.{bounded}
+use Rattle.features.specs.declared.Features.{Features}
+use Rattle.features.proofs.Bounds.{bounded}
 use Rattle.memory.proofs.Children.{hope-small}
 
 module _ {b : Board} (s : Sound b) {f : Features} (e : f ≡ featuresOf (shown b)) where

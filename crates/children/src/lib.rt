@@ -93,7 +93,7 @@ fn birth<'a>(
     ensures { λ r. ⌜ Wrote room (lent (now (nodes .entry)) (now (heap .entry)) (now (keys .entry)) (now (costs .entry))) (lent (now (nodes .exit)) (now (heap .exit)) (now (keys .exit)) (now (costs .exit))) c parent m cost slot (shown (laid (now (cells .entry)) (now (foundation .entry)) (now (counts .entry)) (now (tableau .entry)))) ⌝ }
     ensures { λ r. ⌜ r ≡ counted c (shown (laid (now (cells .entry)) (now (foundation .entry)) (now (counts .entry)) (now (tableau .entry)))) ⌝ }
 {
-    let f = score::measure::compute_features(cells, foundation, counts, tableau);
+    let f = features::compute_features(cells, foundation, counts, tableau);
     let hope = score::scores::heuristic_key(f);
     let sum = cost + hope;
     let waits = frontier::key::pack(sum, hope, c.born);
@@ -215,7 +215,7 @@ pub fn expand(
     ensures { λ r. ⌜ Expands root room (lent (now (nodes .entry)) (now (heap .entry)) (now (keys .entry)) (now (costs .entry))) (lent (now (nodes .exit)) (now (heap .exit)) (now (keys .exit)) (now (costs .exit))) c i r ⌝ }
 {
     let mut list = [0u8; TRIED_ROOM];
-    let n = candidates::candidates_at(&b.cells, &b.foundation, &b.counts, &b.tableau, &mut list);
+    let n = ordered::candidates_at(&b.cells, &b.foundation, &b.counts, &b.tableau, &mut list);
     bear_all(
         root,
         i,

@@ -9,12 +9,14 @@ use native.Mathlib.Omega.{arith}
 use borrow.Author.Tests.{eq-eqb, le-leb}
 use lib.Dec.{eqb}
 use lib.ListN.{length}
-use Rattle.solver.specs.Searched.{Outcome, saidNumber, refusedWith, searched}
+use Rattle.finish.specs.Said.{saidNumber}
+use Rattle.solver.specs.Searched.{Outcome, refusedWith, searched}
 use Rattle.solver.specs.Told.{Call, IsAnswer}
-use Rattle.solver.specs.declared.Said.{Said}
-use Rattle.solver.specs.declared.Said.the-variants.{Won, BestAtLimit, BestExhausted, Limit, Exhausted, BestIsWon, OutOfNodes}
-use Rattle.corbelnib.specs.Wire.{boardIn}
-use Rattle.corbelnib.specs.Judged.{flag, isAnswer, leaves, pointed, judgeLeft}
+use Rattle.finish.specs.declared.Said.{Said}
+use Rattle.finish.specs.declared.Said.the-variants.{Won, BestAtLimit, BestExhausted, Limit, Exhausted, BestIsWon, OutOfNodes}
+use Rattle.crossing.specs.Wire.{boardIn}
+use Rattle.corbelnib.specs.Judged.{leaves, pointed, judgeLeft}
+use Rattle.crossing.specs.Numbers.{flag, isAnswer}
 use Rattle.memory.specs.Memory.{lent}
 
 -- which answer has a number

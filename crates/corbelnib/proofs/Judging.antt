@@ -6,10 +6,12 @@ use Prim.Native.Nat.{ℕ}
 use borrow.Author.Tests.{eq-eqb, ne-eqb}
 use lib.ListN.{length}
 use Rattle.board.specs.declared.Board.{Board}
-use Rattle.solver.specs.Searched.{Outcome, outcome, saidNumber, refusedWith, searched}
-use Rattle.solver.specs.declared.Judged.{Judged}
-use Rattle.corbelnib.specs.Wire.{boardIn}
-use Rattle.corbelnib.specs.Judged.{flag, isAnswer, leaves, pointed, judgeLeft}
+use Rattle.finish.specs.Said.{saidNumber}
+use Rattle.solver.specs.Searched.{Outcome, outcome, refusedWith, searched}
+use Rattle.finish.specs.declared.Judged.{Judged}
+use Rattle.crossing.specs.Wire.{boardIn}
+use Rattle.corbelnib.specs.Judged.{leaves, pointed, judgeLeft}
+use Rattle.crossing.specs.Numbers.{flag, isAnswer}
 
 module _ (nodes heap keys costs list : List ℕ) (pops moves : ℕ) (board : List ℕ) (budget partial : ℕ) where
   -- by whether the bytes are a board

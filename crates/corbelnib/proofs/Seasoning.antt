@@ -10,9 +10,9 @@ use Rattle.sheets.specs.Adding.{addAsked}
 use Rattle.sheets.specs.Promises.{saidOf, leftOf, Adds}
 use Rattle.season.specs.Season.{Lent, filled, leftBy, seasonIn}
 use Rattle.season.specs.Inner.{Leaves}
-use Rattle.corbelnib.specs.Crossing.{Left, left, told, crossed}
-use Rattle.corbelnib.specs.Values.{valueLeft}
-use Rattle.corbelnib.specs.Judged.{flag}
+use Rattle.crossing.specs.Crossing.{Left, left, told, crossed}
+use Rattle.crossing.specs.Values.{valueLeft}
+use Rattle.crossing.specs.Numbers.{flag}
 use Rattle.corbelnib.specs.Season.{seasonLeft, addLeft}
 
 pub season-left : {old new : Lent} {first last budget : ℕ} (partial : ℕ) {e : Examined} {r : ℕ} → Leaves old new first last budget (flag partial) e

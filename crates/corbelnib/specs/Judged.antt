@@ -1,19 +1,12 @@
 -- The search, asked from C: all that `solve` hands back and leaves, with pops and moves behind pointers.
-use mathlib.Core.Bool.{Bool, cond, not, _||_}
+use mathlib.Core.Bool.{cond}
 use mathlib.Core.List.{List}
 use Prim.Native.Nat.{ℕ}
-use lib.Dec.{eqb, leb}
+use lib.Dec.{eqb}
 use lib.ListN.{length}
 use Rattle.solver.specs.Searched.{Outcome, refusedWith, searched}
-use Rattle.corbelnib.specs.Wire.{boardRoom, boardIn}
-
--- a flag is a number: 0 is no
-abbrev pub flag : ℕ → Bool
-flag n = not (eqb n 0)
-
--- 0 to 5 and 23 are answers, the other numbers refusals
-abbrev pub isAnswer : ℕ → Bool
-isAnswer n = leb n 5 || eqb n 23
+use Rattle.crossing.specs.Wire.{boardRoom, boardIn}
+use Rattle.crossing.specs.Numbers.{flag, isAnswer}
 
 -- what a call leaves, part by part
 abbrev pub leaves : ℕ → ℕ → ℕ → List ℕ → List ℕ → List ℕ → List ℕ → List ℕ → Outcome

@@ -3,9 +3,9 @@ use mathlib.Core.List.{List}
 use Prim.Native.Nat.{ℕ}
 use Rattle.sheets.specs.Adding.{addAsked}
 use Rattle.season.specs.Season.{Lent, filled, seasonIn}
-use Rattle.corbelnib.specs.Crossing.{Left, left, crossed}
-use Rattle.corbelnib.specs.Values.{valueLeft}
-use Rattle.corbelnib.specs.Judged.{flag}
+use Rattle.crossing.specs.Crossing.{Left, left, crossed}
+use Rattle.crossing.specs.Values.{valueLeft}
+use Rattle.crossing.specs.Numbers.{flag}
 
 -- 41, 20, 21, 22; a sheet clears the scratch
 unfoldable pub seasonLeft : ℕ → ℕ → ℕ → ℕ → Lent → Left Lent

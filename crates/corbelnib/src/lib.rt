@@ -1,36 +1,23 @@
 // The judge for a controller program in C: numbers and lent memory alone. A board is 432 bytes (src/wire.rt); 0 is done, any
 // other number SCOPE.md's. A refusal changes nothing lent, but for a bad move in a replay.
 ghost use mathlib.Core.Path.{_≡_};
-ghost use Rattle.board.specs.Record.{examined};
-ghost use Rattle.solver.specs.Capacity.{capacityOf};
-ghost use Rattle.corbelnib.specs.Crossing.{left, told, asked};
-ghost use Rattle.corbelnib.specs.Boards.{readLeft, dealLeft, numberLeft, moveLeft, replayLeft, chainLeft};
-ghost use Rattle.corbelnib.specs.Lists.{candidatesLeft, movesLeft, tokenLeft};
-ghost use Rattle.corbelnib.specs.Papers.{lineReadLeft, lineWrittenLeft};
-ghost use Rattle.corbelnib.specs.Values.{signatureLeft, priorityLeft, scoresLeft, featuresLeft};
-ghost use Rattle.corbelnib.specs.Questions.{topLeft, cellLeft, homeLeft, mostLeft, wonLeft, safeLeft};
-ghost use Rattle.corbelnib.specs.Judged.{leaves, judgeLeft};
-ghost use Rattle.corbelnib.specs.Season.{seasonLeft, addLeft};
+ghost use Rattle.crossing.specs.Crossing.{left};
 ghost use Rattle.season.specs.Season.{lentOf};
+ghost use Rattle.corbelnib.specs.Calls.{promise, asks, runs, lends};
+ghost use Rattle.corbelnib.specs.Calls as call;
 use board::Examined;
-use generate::Way;
+use crossing::WayAnswer;
+use crossing::hand;
+use crossing::tell;
+use crossing::wire;
 use safe::SafeAnswer;
 use score::FeaturesAnswer;
-
-mod hand;
-mod tell;
-mod wire;
-
-// A kind of move asked for by its number.
-enum WayAnswer {
-    Is(Way),
-    NoWay,
-}
+use sense::LineAnswer;
 
 // 12 to 15, or 0 for a well-formed board.
 #[no_mangle]
 pub extern "C" fn corbelnib_examine(board: &[u8]) -> u8
-    ensures { λ r. ⌜ r ≡ told (asked (now (board .entry)) examined) ⌝ }
+    ensures { λ r. ⌜ r ≡ promise call.examine (now (board .entry)) tt .number ⌝ }
 {
     if board.len() != wire::BYTES {
         return 12;
@@ -41,7 +28,7 @@ pub extern "C" fn corbelnib_examine(board: &[u8]) -> u8
 // A board from its image: 10 to 15, 21.
 #[no_mangle]
 pub extern "C" fn corbelnib_read(image: &[u8], board: &mut [u8]) -> u8
-    ensures { λ r. ⌜ left r (now (board .exit)) ≡ readLeft (now (image .entry)) (now (board .entry)) ⌝ }
+    ensures { λ r. ⌜ left r (now (board .exit)) ≡ promise call.read (now (image .entry)) (now (board .entry)) ⌝ }
 {
     let read = intake::image::read(image);
     let said = read.said;
@@ -52,7 +39,7 @@ pub extern "C" fn corbelnib_read(image: &[u8], board: &mut [u8]) -> u8
 // A board from a deck: 16, 13, 14, 21.
 #[no_mangle]
 pub extern "C" fn corbelnib_deal(deck: &[u8], board: &mut [u8]) -> u8
-    ensures { λ r. ⌜ left r (now (board .exit)) ≡ dealLeft (now (deck .entry)) (now (board .entry)) ⌝ }
+    ensures { λ r. ⌜ left r (now (board .exit)) ≡ promise call.deal (now (deck .entry)) (now (board .entry)) ⌝ }
 {
     let dealt = intake::deal::deal(deck);
     let said = dealt.said;
@@ -63,7 +50,7 @@ pub extern "C" fn corbelnib_deal(deck: &[u8], board: &mut [u8]) -> u8
 // The board of a hand's number: 41, 21.
 #[no_mangle]
 pub extern "C" fn corbelnib_number(number: usize, board: &mut [u8]) -> u8
-    ensures { λ r. ⌜ left r (now (board .exit)) ≡ numberLeft number (now (board .entry)) ⌝ }
+    ensures { λ r. ⌜ left r (now (board .exit)) ≡ promise call.number number (now (board .entry)) ⌝ }
 {
     let dealt = intake::number::hand(number);
     let said = dealt.said;
@@ -74,7 +61,7 @@ pub extern "C" fn corbelnib_number(number: usize, board: &mut [u8]) -> u8
 // The board after one move: 12 to 15, 30, 33 to 40, 21.
 #[no_mangle]
 pub extern "C" fn corbelnib_move(board: &[u8], bytes: &[u8], after: &mut [u8]) -> u8
-    ensures { λ r. ⌜ left r (now (after .exit)) ≡ moveLeft (now (board .entry)) (now (bytes .entry)) (now (after .entry)) ⌝ }
+    ensures { λ r. ⌜ left r (now (after .exit)) ≡ promise call.move (now (board .entry), now (bytes .entry)) (now (after .entry)) ⌝ }
 {
     if board.len() != wire::BYTES {
         return 12;
@@ -98,7 +85,7 @@ pub extern "C" fn corbelnib_replay(
     after: &mut [u8],
     played: &mut usize,
 ) -> u8
-    ensures { λ r. ⌜ left r (now (after .exit), now (played .exit)) ≡ replayLeft (now (board .entry)) (now (list .entry)) (now (after .entry)) (now (played .entry)) ⌝ }
+    ensures { λ r. ⌜ left r (now (after .exit), now (played .exit)) ≡ promise call.replay (now (board .entry), now (list .entry)) (now (after .entry), now (played .entry)) ⌝ }
 {
     if board.len() != wire::BYTES {
         return 12;
@@ -126,15 +113,13 @@ pub extern "C" fn corbelnib_read_line(
     list: &mut [u8],
     count: &mut usize,
 ) -> u8
-    ensures { λ r. ⌜ left r (now (list .exit), now (count .exit)) ≡ lineReadLeft (now (board .entry)) (now (text .entry)) (now (list .entry)) (now (count .entry)) ⌝ }
+    ensures { λ r. ⌜ left r (now (list .exit), now (count .exit)) ≡ promise call.readLine (now (board .entry), now (text .entry)) (now (list .entry), now (count .entry)) ⌝ }
 {
     if board.len() != wire::BYTES {
         return 12;
     }
-    tell::line(
-        paper::read::read_line(wire::board_in(board), text, list),
-        count,
-    )
+    let answer: LineAnswer = reading::read_line(wire::board_in(board), text, list);
+    tell::line(answer, count)
 }
 
 // The text of a list of moves, and the number of its bytes: 12 to 15, 31, 21; 30, 33 to 40 and 43 tell the place of the move.
@@ -145,21 +130,19 @@ pub extern "C" fn corbelnib_write_line(
     text: &mut [u8],
     count: &mut usize,
 ) -> u8
-    ensures { λ r. ⌜ left r (now (text .exit), now (count .exit)) ≡ lineWrittenLeft (now (board .entry)) (now (list .entry)) (now (text .entry)) (now (count .entry)) ⌝ }
+    ensures { λ r. ⌜ left r (now (text .exit), now (count .exit)) ≡ promise call.writeLine (now (board .entry), now (list .entry)) (now (text .entry), now (count .entry)) ⌝ }
 {
     if board.len() != wire::BYTES {
         return 12;
     }
-    tell::line(
-        paper::write::write_line(wire::board_in(board), list, text),
-        count,
-    )
+    let answer: LineAnswer = writing::write_line(wire::board_in(board), list, text);
+    tell::line(answer, count)
 }
 
 // The board after the chain of safe moves, and their number: 12 to 15, 21.
 #[no_mangle]
 pub extern "C" fn corbelnib_chain(board: &[u8], after: &mut [u8], moves: &mut usize) -> u8
-    ensures { λ r. ⌜ left r (now (after .exit), now (moves .exit)) ≡ chainLeft (now (board .entry)) (now (after .entry)) (now (moves .entry)) ⌝ }
+    ensures { λ r. ⌜ left r (now (after .exit), now (moves .exit)) ≡ promise call.chain (now (board .entry)) (now (after .entry), now (moves .entry)) ⌝ }
 {
     if board.len() != wire::BYTES {
         return 12;
@@ -182,7 +165,7 @@ pub extern "C" fn corbelnib_moves(
     records: &mut [u8],
     count: &mut usize,
 ) -> u8
-    ensures { λ r. ⌜ left r (now (records .exit), now (count .exit)) ≡ movesLeft (now (board .entry)) kind (now (records .entry)) (now (count .entry)) ⌝ }
+    ensures { λ r. ⌜ left r (now (records .exit), now (count .exit)) ≡ promise call.moves (now (board .entry), kind) (now (records .entry), now (count .entry)) ⌝ }
 {
     if board.len() != wire::BYTES {
         return 12;
@@ -194,19 +177,19 @@ pub extern "C" fn corbelnib_moves(
     let WayAnswer::Is(way) = tell::way_of(kind) else {
         return 30;
     };
-    tell::count(generate::find(b, way, records), count)
+    tell::count(generators::find(b, way, records), count)
 }
 
 // The records of the candidates in order, and their number: 12 to 15, 21.
 #[no_mangle]
 pub extern "C" fn corbelnib_candidates(board: &[u8], records: &mut [u8], count: &mut usize) -> u8
-    ensures { λ r. ⌜ left r (now (records .exit), now (count .exit)) ≡ candidatesLeft (now (board .entry)) (now (records .entry)) (now (count .entry)) ⌝ }
+    ensures { λ r. ⌜ left r (now (records .exit), now (count .exit)) ≡ promise call.candidates (now (board .entry)) (now (records .entry), now (count .entry)) ⌝ }
 {
     if board.len() != wire::BYTES {
         return 12;
     }
     tell::count(
-        candidates::candidates_of(wire::board_in(board), records),
+        ordered::candidates_of(wire::board_in(board), records),
         count,
     )
 }
@@ -214,7 +197,7 @@ pub extern "C" fn corbelnib_candidates(board: &[u8], records: &mut [u8], count: 
 // The token's text, and the number of its bytes: 12 to 15, 21.
 #[no_mangle]
 pub extern "C" fn corbelnib_token(board: &[u8], text: &mut [u8], count: &mut usize) -> u8
-    ensures { λ r. ⌜ left r (now (text .exit), now (count .exit)) ≡ tokenLeft (now (board .entry)) (now (text .entry)) (now (count .entry)) ⌝ }
+    ensures { λ r. ⌜ left r (now (text .exit), now (count .exit)) ≡ promise call.token (now (board .entry)) (now (text .entry), now (count .entry)) ⌝ }
 {
     if board.len() != wire::BYTES {
         return 12;
@@ -225,7 +208,7 @@ pub extern "C" fn corbelnib_token(board: &[u8], text: &mut [u8], count: &mut usi
 // The priority of a move: 12 to 15, 30, 33 to 40.
 #[no_mangle]
 pub extern "C" fn corbelnib_priority(board: &[u8], bytes: &[u8], priority: &mut i64) -> u8
-    ensures { λ r. ⌜ left r (now (priority .exit)) ≡ priorityLeft (now (board .entry)) (now (bytes .entry)) (now (priority .entry)) ⌝ }
+    ensures { λ r. ⌜ left r (now (priority .exit)) ≡ promise call.priority (now (board .entry), now (bytes .entry)) (now (priority .entry)) ⌝ }
 {
     if board.len() != wire::BYTES {
         return 12;
@@ -239,7 +222,7 @@ pub extern "C" fn corbelnib_priority(board: &[u8], bytes: &[u8], priority: &mut 
 // Heuristic and progress score: 12 to 15.
 #[no_mangle]
 pub extern "C" fn corbelnib_scores(board: &[u8], heuristic: &mut i64, progress: &mut i64) -> u8
-    ensures { λ r. ⌜ left r (now (heuristic .exit), now (progress .exit)) ≡ scoresLeft (now (board .entry)) (now (heuristic .entry)) (now (progress .entry)) ⌝ }
+    ensures { λ r. ⌜ left r (now (heuristic .exit), now (progress .exit)) ≡ promise call.scores (now (board .entry)) (now (heuristic .entry), now (progress .entry)) ⌝ }
 {
     if board.len() != wire::BYTES {
         return 12;
@@ -252,7 +235,7 @@ pub extern "C" fn corbelnib_scores(board: &[u8], heuristic: &mut i64, progress: 
 // The signature: 12 to 15.
 #[no_mangle]
 pub extern "C" fn corbelnib_signature(board: &[u8], signature: &mut u64) -> u8
-    ensures { λ r. ⌜ left r (now (signature .exit)) ≡ signatureLeft (now (board .entry)) (now (signature .entry)) ⌝ }
+    ensures { λ r. ⌜ left r (now (signature .exit)) ≡ promise call.signature (now (board .entry)) (now (signature .entry)) ⌝ }
 {
     if board.len() != wire::BYTES {
         return 12;
@@ -263,7 +246,7 @@ pub extern "C" fn corbelnib_signature(board: &[u8], signature: &mut u64) -> u8
 // The code of the card on top of a column, 255 for none: 12 to 15, 30.
 #[no_mangle]
 pub extern "C" fn corbelnib_top(board: &[u8], column: usize, code: &mut u8) -> u8
-    ensures { λ r. ⌜ left r (now (code .exit)) ≡ topLeft (now (board .entry)) column (now (code .entry)) ⌝ }
+    ensures { λ r. ⌜ left r (now (code .exit)) ≡ promise call.top (now (board .entry), column) (now (code .entry)) ⌝ }
 {
     if board.len() != wire::BYTES {
         return 12;
@@ -276,7 +259,7 @@ pub extern "C" fn corbelnib_top(board: &[u8], column: usize, code: &mut u8) -> u
 // The code of the card in a cell, 255 for none: 12 to 15, 30.
 #[no_mangle]
 pub extern "C" fn corbelnib_cell(board: &[u8], cell: usize, code: &mut u8) -> u8
-    ensures { λ r. ⌜ left r (now (code .exit)) ≡ cellLeft (now (board .entry)) cell (now (code .entry)) ⌝ }
+    ensures { λ r. ⌜ left r (now (code .exit)) ≡ promise call.cell (now (board .entry), cell) (now (code .entry)) ⌝ }
 {
     if board.len() != wire::BYTES {
         return 12;
@@ -289,7 +272,7 @@ pub extern "C" fn corbelnib_cell(board: &[u8], cell: usize, code: &mut u8) -> u8
 // How many cards of a suit are home: 12 to 15, 30.
 #[no_mangle]
 pub extern "C" fn corbelnib_home(board: &[u8], suit: usize, count: &mut usize) -> u8
-    ensures { λ r. ⌜ left r (now (count .exit)) ≡ homeLeft (now (board .entry)) suit (now (count .entry)) ⌝ }
+    ensures { λ r. ⌜ left r (now (count .exit)) ≡ promise call.home (now (board .entry), suit) (now (count .entry)) ⌝ }
 {
     if board.len() != wire::BYTES {
         return 12;
@@ -303,7 +286,7 @@ pub extern "C" fn corbelnib_home(board: &[u8], suit: usize, count: &mut usize) -
 // The most cards that may go to a column at once: 12 to 15, 30.
 #[no_mangle]
 pub extern "C" fn corbelnib_most(board: &[u8], column: usize, count: &mut usize) -> u8
-    ensures { λ r. ⌜ left r (now (count .exit)) ≡ mostLeft (now (board .entry)) column (now (count .entry)) ⌝ }
+    ensures { λ r. ⌜ left r (now (count .exit)) ≡ promise call.most (now (board .entry), column) (now (count .entry)) ⌝ }
 {
     if board.len() != wire::BYTES {
         return 12;
@@ -317,7 +300,7 @@ pub extern "C" fn corbelnib_most(board: &[u8], column: usize, count: &mut usize)
 // Whether the board is won: 12 to 15.
 #[no_mangle]
 pub extern "C" fn corbelnib_won(board: &[u8], won: &mut u8) -> u8
-    ensures { λ r. ⌜ left r (now (won .exit)) ≡ wonLeft (now (board .entry)) (now (won .entry)) ⌝ }
+    ensures { λ r. ⌜ left r (now (won .exit)) ≡ promise call.won (now (board .entry)) (now (won .entry)) ⌝ }
 {
     if board.len() != wire::BYTES {
         return 12;
@@ -328,7 +311,7 @@ pub extern "C" fn corbelnib_won(board: &[u8], won: &mut u8) -> u8
 // The record of the first safe move, and whether there is one: 12 to 15, 21.
 #[no_mangle]
 pub extern "C" fn corbelnib_safe(board: &[u8], bytes: &mut [u8], count: &mut usize) -> u8
-    ensures { λ r. ⌜ left r (now (bytes .exit), now (count .exit)) ≡ safeLeft (now (board .entry)) (now (bytes .entry)) (now (count .entry)) ⌝ }
+    ensures { λ r. ⌜ left r (now (bytes .exit), now (count .exit)) ≡ promise call.safe (now (board .entry)) (now (bytes .entry), now (count .entry)) ⌝ }
 {
     if board.len() != wire::BYTES {
         return 12;
@@ -349,7 +332,7 @@ pub extern "C" fn corbelnib_safe(board: &[u8], bytes: &mut [u8], count: &mut usi
 // The seven features: 12 to 15, 21.
 #[no_mangle]
 pub extern "C" fn corbelnib_features(board: &[u8], features: &mut [u64]) -> u8
-    ensures { λ r. ⌜ left r (now (features .exit)) ≡ featuresLeft (now (board .entry)) (now (features .entry)) ⌝ }
+    ensures { λ r. ⌜ left r (now (features .exit)) ≡ promise call.features (now (board .entry)) (now (features .entry)) ⌝ }
 {
     if board.len() != wire::BYTES {
         return 12;
@@ -369,7 +352,7 @@ pub extern "C" fn corbelnib_features(board: &[u8], features: &mut [u64]) -> u8
 // How many nodes lent parts of these lengths hold.
 #[no_mangle]
 pub extern "C" fn corbelnib_capacity(nodes: usize, heap: usize, keys: usize, costs: usize) -> usize
-    ensures { λ r. ⌜ r ≡ capacityOf nodes heap keys costs ⌝ }
+    ensures { λ r. ⌜ r ≡ promise call.capacity (nodes, (heap, (keys, costs))) tt .number ⌝ }
 {
     solver::capacity_of(nodes, heap, keys, costs)
 }
@@ -388,7 +371,7 @@ pub extern "C" fn corbelnib_judge(
     pops: &mut usize,
     moves: &mut usize,
 ) -> u8
-    ensures { λ r. ⌜ leaves r (now (pops .exit)) (now (moves .exit)) (now (nodes .exit)) (now (heap .exit)) (now (keys .exit)) (now (costs .exit)) (now (list .exit)) ≡ judgeLeft (now (nodes .entry)) (now (heap .entry)) (now (keys .entry)) (now (costs .entry)) (now (list .entry)) (now (pops .entry)) (now (moves .entry)) (now (board .entry)) budget partial ⌝ }
+    ensures { λ r. ⌜ left r (lends (now (nodes .exit)) (now (heap .exit)) (now (keys .exit)) (now (costs .exit)) (now (list .exit)) (now (pops .exit)) (now (moves .exit))) ≡ promise call.judge (asks (now (board .entry)) budget partial) (lends (now (nodes .entry)) (now (heap .entry)) (now (keys .entry)) (now (costs .entry)) (now (list .entry)) (now (pops .entry)) (now (moves .entry))) ⌝ }
 {
     if board.len() != wire::BYTES {
         return 12;
@@ -399,7 +382,7 @@ pub extern "C" fn corbelnib_judge(
     let said = judged.said;
     let p = judged.pops;
     let m = judged.moves;
-    let number = solver::number(said);
+    let number = finish::number(said);
     if tell::is_answer(number) {
         *pops = p;
         *moves = m;
@@ -421,7 +404,7 @@ pub extern "C" fn corbelnib_season(
     costs: &mut [u8],
     sheet: &mut [u64],
 ) -> u8
-    ensures { λ r. ⌜ left r (lentOf (now (nodes .exit)) (now (heap .exit)) (now (keys .exit)) (now (costs .exit)) (now (sheet .exit))) ≡ seasonLeft first last budget partial (lentOf (now (nodes .entry)) (now (heap .entry)) (now (keys .entry)) (now (costs .entry)) (now (sheet .entry))) ⌝ }
+    ensures { λ r. ⌜ left r (lentOf (now (nodes .exit)) (now (heap .exit)) (now (keys .exit)) (now (costs .exit)) (now (sheet .exit))) ≡ promise call.season (runs first last budget partial) (lentOf (now (nodes .entry)) (now (heap .entry)) (now (keys .entry)) (now (costs .entry)) (now (sheet .entry))) ⌝ }
 {
     let allowed = partial != 0;
     let said = season::season(
@@ -438,11 +421,19 @@ pub extern "C" fn corbelnib_season(
     tell::verdict(said)
 }
 
+// The version of the library: 601 is 0.6.1.
+#[no_mangle]
+pub extern "C" fn corbelnib_version() -> u32
+    ensures { λ r. ⌜ r ≡ promise call.version tt tt .number ⌝ }
+{
+    601
+}
+
 // A sheet added to the first, where it stands: 47, 45, 44.
 #[no_mangle]
 pub extern "C" fn corbelnib_add(into: &mut [u64], other: &[u64]) -> u8
-    ensures { λ r. ⌜ left r (now (into .exit)) ≡ addLeft (now (into .entry)) (now (other .entry)) ⌝ }
+    ensures { λ r. ⌜ left r (now (into .exit)) ≡ promise call.add (now (other .entry)) (now (into .entry)) ⌝ }
 {
-    let said = sheets::total::add(into, other);
+    let said = totals::add(into, other);
     tell::verdict(said)
 }

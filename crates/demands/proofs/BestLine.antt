@@ -12,9 +12,9 @@ use Rattle.search.proofs.Judge as proved
 use Rattle.solver.specs.Told as solver
 use Rattle.solver.proofs.Calls as calls
 use Rattle.solver.proofs.Masters as masters
-use Rattle.corbelnib.specs.Wire.{boardIn}
-use Rattle.corbelnib.specs.Judged.{flag, isAnswer}
-use Rattle.demands.specs.Calls.{replay, judge, Call, capacityIn}
+use Rattle.crossing.specs.Wire.{boardIn}
+use Rattle.crossing.specs.Numbers.{flag, isAnswer}
+use Rattle.corbelnib.specs.Calls.{replay, judge, Call, capacityIn}
 use Rattle.demands.specs.Demand1.{GoodSearch}
 use Rattle.demands.specs.Demand2.{tableIn, Answers, Replays, endOf}
 use Rattle.demands.specs.Demand3.{Accepted, NoLess}

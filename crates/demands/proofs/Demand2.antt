@@ -24,17 +24,17 @@ use Rattle.generate.specs.Asked.{recordRoom}
 use Rattle.generate.specs.declared.Way.{Way}
 use Rattle.signature.specs.Fnv.{fnv}
 use Rattle.signature.specs.Signed.{signatureOf, signatureAsked, columnHashes}
-use Rattle.score.specs.Features.{featuresOf}
+use Rattle.features.specs.Features.{featuresOf}
 use Rattle.score.specs.Scores.{heuristic, progress}
 use Rattle.score.specs.Asked.{featuresAsked}
-use Rattle.score.specs.declared.Features.{Features}
+use Rattle.features.specs.declared.Features.{Features}
 use Rattle.candidates.specs.Candidates.{candidates as tried}
 use Rattle.solver.proofs.Calls.{answered-accepted, gives}
-use Rattle.corbelnib.specs.Crossing.{Left, left, crossed}
-use Rattle.corbelnib.specs.Lists.{listLeft, candidatesLeft, wayAsked, foundBy, movesLeft}
-use Rattle.corbelnib.specs.Values.{valueLeft, signatureLeft, scoresLeft}
-use Rattle.corbelnib.proofs.Crossing.{some-room}
-use Rattle.demands.specs.Calls.{moves, candidates, scores, signature, judge, Call, GoodBoard}
+use Rattle.crossing.specs.Crossing.{Left, left, crossed}
+use Rattle.crossing.specs.Lists.{listLeft, candidatesLeft, wayAsked, foundBy, movesLeft}
+use Rattle.crossing.specs.Values.{valueLeft, signatureLeft, scoresLeft}
+use Rattle.crossing.proofs.Crossing.{some-room}
+use Rattle.corbelnib.specs.Calls.{moves, candidates, scores, signature, judge, Call, GoodBoard}
 use Rattle.demands.specs.Demand1.{GoodSearch}
 use Rattle.demands.specs.Fnv1a.{fnv1a, isOctet}
 use Rattle.demands.specs.Demand2.{tableIn, Lists, answerTo, Answers, Demand2}

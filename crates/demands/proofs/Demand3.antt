@@ -14,20 +14,20 @@ use Rattle.base.proofs.Words.{not-so}
 use Rattle.board.specs.Table.{Table}
 use Rattle.moves.specs.declared.Move.{Move}
 use Rattle.moves.specs.Written.{bytesOf}
-use Rattle.score.specs.Features.{featuresOf}
+use Rattle.features.specs.Features.{featuresOf}
 use Rattle.score.specs.Scores.{progress}
 use Rattle.search.specs.Freecell.{freecell, judge as search-of}
 use Rattle.search.specs.Solve.{Answer}
 use Rattle.search.specs.Claims.{bringsList, isBest}
 use Rattle.search.specs.Played.{finalScore}
 use Rattle.solver.specs.Told as solver
-use Rattle.solver.specs.Searched.{movesOf}
+use Rattle.finish.specs.Said.{movesOf}
 use Rattle.solver.proofs.Calls.{answered-accepted}
 use Rattle.solver.proofs.Calls as calls
 use Rattle.solver.proofs.Masters as masters
-use Rattle.corbelnib.specs.Wire.{boardIn}
-use Rattle.corbelnib.specs.Judged.{flag, isAnswer}
-use Rattle.demands.specs.Calls.{judge, Call, GoodBoard, capacityIn}
+use Rattle.crossing.specs.Wire.{boardIn}
+use Rattle.crossing.specs.Numbers.{flag, isAnswer}
+use Rattle.corbelnib.specs.Calls.{judge, Call, GoodBoard, capacityIn}
 use Rattle.demands.specs.Demand2.{tableIn, answerTo, handed}
 use Rattle.demands.specs.Demand3.{isWon, isExhausted, isBestProgress, Accepted, SameBoard, SameList, SameAnswer, NoLess, SameSettings, FinalScore, scoreOf, Demand3}
 use Rattle.demands.proofs.Searching.{good-search, good-answered, searching, same-number, answered, sized}

@@ -9,23 +9,22 @@ use lib.Dec.{eqb}
 use lib.ListN.{length, take}
 use Rattle.base.specs.Answer.{Answer, given}
 use Rattle.base.specs.Put.{over}
+use Rattle.base.proofs.Answers.{given-by}
 use Rattle.board.specs.Record.{boardOf}
 use Rattle.board.specs.declared.Board.{Board}
 use Rattle.shuffle.specs.Shuffle.{deckOf}
 use Rattle.intake.specs.Deal.{dealt}
 use Rattle.intake.specs.Number.{isNumber, numberAsked}
 use Rattle.intake.proofs.Numbers.{number-given, number-none, number-fair, number-columns}
-use Rattle.corbelnib.specs.Wire.{boardRoom, boardIn, bytesOf}
-use Rattle.corbelnib.specs.Crossing.{Left, left}
-use Rattle.corbelnib.specs.Boards.{boardLeft, numberLeft}
-use Rattle.corbelnib.proofs.Handing.{hands-yes, hands-short}
-use Rattle.demands.specs.Calls.{number, Call, GoodBoard}
-use Rattle.demands.specs.Demand1.{hands}
+use Rattle.crossing.specs.Wire.{boardRoom, boardIn, bytesOf}
+use Rattle.crossing.specs.Crossing.{Left, left}
+use Rattle.crossing.specs.Boards.{boardLeft, numberLeft}
+use Rattle.crossing.proofs.Handing.{hands-yes, hands-short}
+use Rattle.corbelnib.specs.Calls.{number, Call, GoodBoard}
 use Rattle.demands.specs.Demand2.{tableIn}
 use Rattle.demands.specs.HandsByNumber.{dealtBy, HandsByNumber}
-use Rattle.demands.proofs.Crossing.{kept}
 use Rattle.demands.proofs.Replaying.{laid-board, laid-table, laid-good}
-use Rattle.demands.proofs.Demand1.{number-keeps}
+use Rattle.demands.proofs.Demand1.{demand1}
 
 module _ (c : Call number) where
   abbrev board : Board
@@ -52,7 +51,7 @@ module _ (c : Call number) where
   -- what is dealt lies in the room: the number is one, and the room is large enough
   module _ (done : c .number ≡ 0) where
     pub is-number : isNumber (c .input) ≡ true
-    is-number = kept number c (number-keeps c) .examines (ap (λ (n : ℕ). eqb n 0) done)
+    is-number = given-by (isNumber (c .input)) 41 _ (demand1 .examines c (ap (λ (n : ℕ). eqb n 0) done)) .0
 
     pub enough : boardRoom ≤ length (c .before)
     enough = by (decLe boardRoom (length (c .before)))
@@ -80,4 +79,5 @@ handsByNumber =
       wellFormed = well;
       columns = column-counts;
       refused = no-number;
+      narrow = short;
     }

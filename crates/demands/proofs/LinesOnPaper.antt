@@ -1,132 +1,38 @@
 -- Request (iv) holds.
 use mathlib.Core.Path.{_≡_, refl, sym, ap, ap₂, _∙_, subst}
-use mathlib.Core.Bool.{Bool}
-use mathlib.Core.List.{List, [], _∷_, _++_}
-use Prim.Native.Nat.{ℕ, _*_, _<_, _≤_}
+use mathlib.Core.List.{List, _++_}
+use Prim.Native.Nat.{ℕ, _≤_}
 use native.Mathlib.Omega.{arith}
-use borrow.Author.Tests.{eq-eqb, eqb-true}
 use lib.Dec.{eqb, leb}
 use lib.ListN.{length, take}
-use lib.Seq.{take-at}
 use Rattle.base.specs.Answer.{unless}
-use Rattle.base.proofs.Answers.{given-by}
 use Rattle.board.specs.Verdict.{Verdict, fine, after}
 use Rattle.board.specs.Record.{examined, shown}
 use Rattle.board.specs.declared.Board.{Board}
-use Rattle.moves.specs.Written.{listRoom, bytesOf, written}
+use Rattle.moves.specs.Written.{listRoom, bytesOf}
 use Rattle.moves.specs.declared.Move.{Move}
-use Rattle.moves.proofs.Writing.{bytes-long}
-use Rattle.paper.specs.Form.{lineIn, jots, wrong}
-use Rattle.paper.specs.Lines.{Outcome, gives, checked, lineRead}
-use Rattle.paper.specs.Lines.{readBy as by-text}
-use Rattle.paper.specs.declared.Jot.{Jot}
-use Rattle.paper.specs.Asked.{counted, readAsked, listAfter, textRoom, movesIn, writeAsked, textAfter}
-use Rattle.paper.proofs.Stopping.{place-within, place-begins, place-blocks}
-use Rattle.paper.proofs.Reading.{text-long}
-use Rattle.paper.proofs.Asking.{checked-gives, wrote, written-read, written-once, read-written}
-use Rattle.corbelnib.specs.Wire.{boardRoom, boardIn}
-use Rattle.corbelnib.specs.Crossing.{Left, left}
-use Rattle.corbelnib.specs.Papers.{lineAsked, countLeft, readBy, writtenBy, lineReadLeft, lineWrittenLeft}
-use Rattle.demands.specs.Calls.{readLine, writeLine, Call}
-use Rattle.demands.specs.Demand1.{ofMoves, refusals}
-use Rattle.demands.specs.LinesOnPaper.{textWritten, recordsRead, Octets, FirstWrong, LinesOnPaper}
+use Rattle.notation.specs.Form.{lineIn, jots, wrong}
+use Rattle.reading.specs.Lines.{lineRead}
+use Rattle.sense.specs.Outcome.{Outcome, gives}
+use Rattle.reading.specs.Lines.{readBy as by-text}
+use Rattle.notation.specs.declared.Jot.{Jot}
+use Rattle.writing.specs.Asked.{textRoom, writeAsked}
+use Rattle.reading.specs.Asked.{readAsked}
+use Rattle.sense.specs.Outcome.{counted}
+use Rattle.notation.proofs.Forming.{form-back, form-forth}
+use Rattle.notation.proofs.Stopping.{form-well, place-within, place-begins, place-blocks}
+use Rattle.paper.proofs.Asking.{written-read, written-once, read-written}
+use Rattle.crossing.specs.Wire.{boardRoom, boardIn}
+use Rattle.crossing.specs.Crossing.{Left}
+use Rattle.crossing.specs.Papers.{countLeft}
+use Rattle.corbelnib.specs.Calls.{readLine, writeLine, Call}
+use Rattle.demands.specs.LinesOnPaper.{textWritten, recordsRead, Octets, InForm, FirstWrong, LinesOnPaper}
 use Rattle.demands.proofs.Refusing.{by-test, by-verdict, board-refuses}
 use Rattle.demands.proofs.Crossing.{sized-in}
-use Rattle.demands.proofs.Replaying.{over-first}
-use Rattle.demands.proofs.Papers.{readOutcome, writeOutcome, read-stops, write-stops, Gave, zero-gave, not-zero-keeps, passed-on, forty-two}
-
--- ---- a board of 432 bytes is asked further
-
-module _ {A : Type 0} (bytes : List ℕ) (question : Board → Outcome A) where
-  asked-on : length bytes ≡ 432 → lineAsked bytes question ≡ question (boardIn bytes)
-  asked-on e = ap (λ (ok : Bool). checked (unless ok 12 fine) (question (boardIn bytes))) (eq-eqb (length bytes) 432 e)
-
-  asked-gave : {x : A} → lineAsked bytes question ≡ gives x → (length bytes ≡ 432) × (question (boardIn bytes) ≡ gives x)
-  asked-gave e =
-      let c = checked-gives (unless (eqb (length bytes) boardRoom) 12 fine) (question (boardIn bytes)) e in
-      (eqb-true (length bytes) 432 (given-by (eqb (length bytes) boardRoom) 12 fine (c .0) .0), c .1)
-
--- ---- records at the start of a list
-
-written-first : (old : List ℕ) (ms : List Move) → take (length ms * 5) (written old 0 ms) ≡ bytesOf ms
-unfolding written
-written-first old ms = take-at (bytesOf ms) _ (length ms * 5) (bytes-long ms)
-
--- ---- a text that was read
-
-module _ (r : Call readLine) where
-  abbrev read : Outcome (List Move)
-  read = readOutcome (r .input .0) (r .input .1) (length (r .before .0))
-
-  read-end : left (r .number) (r .after) ≡ readBy read (r .before .0) (r .before .1)
-  unfolding lineReadLeft
-  read-end = r .keeps
-
-  read-number : r .number ≡ countLeft (counted read) (r .before .1) .number
-  read-number = ap (λ (l : Left (List ℕ × ℕ)). l .number) read-end
-
-  read-gave : r .number ≡ 0 → Gave read
-  read-gave e = zero-gave (refusals readLine) (42 ∷ ofMoves) refl refl read (r .before .1) (read-stops (r .input .0) (r .input .1) (length (r .before .0))) (sym read-number ∙ e)
-
-  module _ {ms : List Move} (e : read ≡ gives ms) where
-    read-so : left (r .number) (r .after) ≡ readBy (gives ms) (r .before .0) (r .before .1)
-    read-so = read-end ∙ ap (λ (o : Outcome (List Move)). readBy o (r .before .0) (r .before .1)) e
-
-    read-done : r .number ≡ 0
-    read-done = ap (λ (l : Left (List ℕ × ℕ)). l .number) read-so
-
-    records-are : recordsRead r ≡ bytesOf ms
-    records-are = ap (λ (l : Left (List ℕ × ℕ)). take (l .places .1 * 5) (l .places .0)) read-so ∙ written-first (r .before .0) ms
-
-  list-kept : (r .number ≡ 0 → ⊥) → r .after .0 ≡ r .before .0
-  list-kept d =
-      ap (λ (l : Left (List ℕ × ℕ)). l .places .0) read-end
-      ∙ not-zero-keeps (λ o. listAfter o (r .before .0)) (λ n. refl) (λ n p. refl) read (r .before .1) (λ e. d (read-number ∙ e))
-
--- ---- a list that was written
-
-module _ (w : Call writeLine) where
-  abbrev wrote-it : Outcome (List ℕ)
-  wrote-it = writeOutcome (w .input .0) (w .input .1) (length (w .before .0))
-
-  write-end : left (w .number) (w .after) ≡ writtenBy wrote-it (w .before .0) (w .before .1)
-  unfolding lineWrittenLeft
-  write-end = w .keeps
-
-  write-number : w .number ≡ countLeft (counted wrote-it) (w .before .1) .number
-  write-number = ap (λ (l : Left (List ℕ × ℕ)). l .number) write-end
-
-  write-gave : w .number ≡ 0 → Gave wrote-it
-  write-gave e = zero-gave (refusals writeLine) (43 ∷ ofMoves) refl refl wrote-it (w .before .1) (write-stops (w .input .0) (w .input .1) (length (w .before .0))) (sym write-number ∙ e)
-
-  module _ {text : List ℕ} (e : wrote-it ≡ gives text) where
-    write-so : left (w .number) (w .after) ≡ writtenBy (gives text) (w .before .0) (w .before .1)
-    write-so = write-end ∙ ap (λ (o : Outcome (List ℕ)). writtenBy o (w .before .0) (w .before .1)) e
-
-    write-done : w .number ≡ 0
-    write-done = ap (λ (l : Left (List ℕ × ℕ)). l .number) write-so
-
-    text-is : textWritten w ≡ text
-    text-is = ap (λ (l : Left (List ℕ × ℕ)). take (l .places .1) (l .places .0)) write-so ∙ over-first text (w .before .0) (length text) refl
-
-  text-kept : (w .number ≡ 0 → ⊥) → w .after .0 ≡ w .before .0
-  text-kept d =
-      ap (λ (l : Left (List ℕ × ℕ)). l .places .0) write-end
-      ∙ not-zero-keeps (λ o. textAfter o (w .before .0)) (λ n. refl) (λ n p. refl) wrote-it (w .before .1) (λ e. d (write-number ∙ e))
-
-  -- the question that was answered
-  module _ (done : w .number ≡ 0) where
-    abbrev answer : (length (w .input .0) ≡ 432) × (writeAsked (boardIn (w .input .0)) (w .input .1) (length (w .before .0)) ≡ gives (write-gave done .value))
-    answer = asked-gave (w .input .0) (λ b. writeAsked b (w .input .1) (length (w .before .0))) (write-gave done .is)
-
-    written-text : textWritten w ≡ write-gave done .value
-    written-text = text-is (write-gave done .is)
-
-    text-short : Octets (w .input .1) → length (textWritten w) ≤ textRoom
-    text-short f =
-        let b = boardIn (w .input .0) in
-        let k = wrote b (w .input .1) (length (w .before .0)) (sized-in (w .input .0) (answer .0)) f (answer .1) in
-        subst (λ (t : List ℕ). length t ≤ textRoom) (k .same ∙ sym written-text) (text-long (shown b) (movesIn (w .input .1)) (k .few))
+use Rattle.demands.proofs.Papers.{readRefusals, readOutcome, writeOutcome, passed-on, forty-two}
+use Rattle.demands.proofs.PaperCalls.{asked-on, asked-gave, read, read-end, read-number, read-gave, read-done, records-are, list-kept, write-gave, write-done, text-is, text-kept, answer, written-text, text-short}
+use Rattle.demands.proofs.ReadingLines.{bad-board, little-room, no-line, past-most, no-moves, wrong-move, bad-move, one-more}
+use Rattle.demands.proofs.WritingLines.{replay-first, no-notation, little-text, all-written}
 
 -- ---- written and read, read and written
 
@@ -163,12 +69,19 @@ once v w d e f g same text =
 
 -- ---- the place with 42
 
+-- what a line is, and what the reader makes of it
+in-form : (text : List ℕ) {js : List Jot} → lineIn text ≡ jots js → InForm text
+in-form text {js} e = record { moves = js; well = form-well text e; is = form-forth text e }
+
+line-in : {text : List ℕ} (f : InForm text) → lineIn text ≡ jots (f .moves)
+line-in f = ap lineIn (sym (f .is)) ∙ form-back (f .moves) (f .well)
+
 module _ (r : Call readLine) (e : r .number ≡ 42) where
   abbrev board : Board
   board = boardIn (r .input .0)
 
   abbrev ns : List ℕ
-  ns = refusals readLine
+  ns = readRefusals
 
   -- the board and the room were fine, so that the text decided
   text-decides : read r ≡ by-text (shown board) (lineIn (r .input .1))
@@ -193,12 +106,12 @@ module _ (r : Call readLine) (e : r .number ≡ 42) where
   first-wrong : FirstWrong (r .input .1) (r .after .1)
   first-wrong =
       let text = r .input .1 in
-      let b = place-begins text wrong-there in
+      let q = place-begins text wrong-there in
       record {
         within = place-within text wrong-there;
-        before = (b .0, record { moves = b .1 .moves; reads = b .1 .reads });
-        there = λ h more l. place-blocks text wrong-there h more (record { moves = l .moves; reads = l .reads });
-        none = λ l. clash (sym (l .reads) ∙ wrong-there);
+        before = (q .0, in-form (take (r .after .1) text ++ q .0) (q .1 .reads));
+        there = λ h more l. place-blocks text wrong-there h more (record { moves = l .moves; reads = line-in l });
+        none = λ l. clash (sym (line-in l) ∙ wrong-there);
       }
     where
       clash : {js : List Jot} {p : ℕ} → jots js ≡ wrong p → ⊥
@@ -211,7 +124,19 @@ linesOnPaper =
       oneText = once;
       again = λ r w. forth w r;
       short = λ w d f. text-short w d f;
+      board = bad-board;
+      littleRoom = little-room;
+      outside = λ r ok d. let e = no-line r ok d in (e, first-wrong r e);
       firstWrong = first-wrong;
+      tooMany = past-most;
+      wrongMove = λ r w later c. wrong-move c;
+      badMove = λ r w later c. bad-move c;
+      oneMore = λ r w c m k x p. one-more c m k x p refl;
+      none = no-moves;
+      replayFirst = replay-first;
+      unwritable = no-notation;
+      littleText = little-text;
+      writes = all-written;
       keepsList = list-kept;
       keepsText = text-kept;
     }

@@ -1,16 +1,13 @@
--- Demand 1 of the calls for lines on paper: which numbers they tell, with a place or without, and what they leave.
+-- The calls for lines on paper: which numbers they tell, with a place or without, and their rows of the table of orders.
 use mathlib.Core.Path.{_≡_, refl, sym, ap, _∙_, subst}
-use mathlib.Core.Bool.{Bool, true, false, cond, not, _||_, or-true}
+use mathlib.Core.Bool.{Bool, true, false, cond, not, _&&_, _||_, or-true}
 use mathlib.Core.List.{List, [], _∷_, _++_}
 use Prim.Native.Nat.{ℕ, suc}
 use native.Mathlib.Omega.{arith}
-use borrow.Author.Tests.{eqb-true}
 use lib.Dec.{eqb, leb}
 use lib.ListN.{length}
 use Rattle.base.specs.Answer.{Answer, given, refused, unless}
-use Rattle.base.specs.Words.{all}
 use Rattle.base.proofs.Words.{true-or-not}
-use Rattle.base.proofs.Answers.{given-by}
 use Rattle.board.specs.Table.{Table}
 use Rattle.board.specs.Verdict.{Verdict, fine, after}
 use Rattle.board.specs.Record.{examined, shown}
@@ -21,20 +18,23 @@ use Rattle.moves.specs.Written.{listRoom}
 use Rattle.moves.specs.declared.Move.{Move}
 use Rattle.replay.specs.Step.{stepped}
 use Rattle.replay.specs.Line.{goOn, lineFrom, recordsIn, isLine}
-use Rattle.paper.specs.Form.{Reading, jots, wrong, lineIn}
-use Rattle.paper.specs.Meant.{vacant, fitting, origin, countGoes, leaves, sense, meant}
-use Rattle.paper.specs.Lines.{Outcome, gives, refuses, refusesAt, checked, mostMoves, ruled, first, readOn, movesFrom, readBy, lineRead, textOf, writableFirst}
-use Rattle.paper.specs.Asked.{counted, readAsked, textRoom, movesIn, checkedAt, writeAsked}
-use Rattle.paper.specs.declared.Jot.{Jot}
-use Rattle.paper.specs.declared.Jot.the-variants.{Between, Counted, ToCell, ToHome, FromCell, CellHome}
-use Rattle.corbelnib.specs.Wire.{boardRoom, boardIn}
-use Rattle.corbelnib.specs.Crossing.{left}
-use Rattle.corbelnib.specs.Papers.{lineAsked, countLeft, withRoom}
-use Rattle.demands.specs.Calls.{readLine, writeLine, GoodBoard}
-use Rattle.demands.specs.Demand1.{isIn, ofMoves, refusals}
-use Rattle.demands.proofs.Refusing.{Refuses, by-test, by-verdict, board-refuses, ruling-refuses, step-refuses, in-moves}
-use Rattle.demands.proofs.Crossing.{Keeps, hands-back, given-after, good-board}
-use Rattle.demands.proofs.Crossing as crossing
+use Rattle.notation.specs.Form.{Reading, jots, wrong, lineIn}
+use Rattle.sense.specs.Meant.{vacant, fitting, origin, countGoes, leaves, sense, meant}
+use Rattle.writing.specs.Lines.{textOf, writableFirst}
+use Rattle.reading.specs.Lines.{ruled, first, readOn, movesFrom, readBy, lineRead}
+use Rattle.sense.specs.Outcome.{Outcome, gives, refuses, refusesAt, checked, mostMoves, counted, checkedAt}
+use Rattle.writing.specs.Asked.{textRoom, movesIn, playedThrough, writtenThrough, writeAsked, textAfter}
+use Rattle.reading.specs.Asked.{readAsked, listAfter}
+use Rattle.notation.specs.declared.Jot.{Jot}
+use Rattle.notation.specs.declared.Jot.the-variants.{Between, Counted, ToCell, ToHome, FromCell, CellHome}
+use Rattle.crossing.specs.Wire.{boardRoom, boardIn}
+use Rattle.crossing.specs.Crossing.{Left, left}
+use Rattle.crossing.specs.Papers.{lineAsked, countLeft, withRoom, lineReadLeft, lineWrittenLeft}
+use Rattle.corbelnib.specs.Calls.{In, Places, readLine, writeLine}
+use Rattle.demands.specs.Orders.{Test, firstFailing, boards, roomFor, notTooLong, isFine, goesOnPaper, order}
+use Rattle.demands.specs.Demand1.{isIn, ofMoves, hands}
+use Rattle.demands.proofs.Refusing.{Refuses, by-test, by-verdict, ruling-refuses, step-refuses, in-moves, first-refuses}
+use Rattle.demands.proofs.Ordering.{after-after, after-test, boards-then, Held, numbers, Ruled}
 
 -- ---- which numbers
 
@@ -111,7 +111,7 @@ line-refuses (r ∷ rs) b = by (stepped b r) (step-refuses ofMoves in-moves b r)
     by (given c) h on = on c
     by (refused n) h on = h
 
--- ---- what comes of each call
+-- ---- what comes of each call: the tests of its row, and then what is told with a place or written
 
 abbrev pub readOutcome : List ℕ → List ℕ → ℕ → Outcome (List Move)
 readOutcome board text lent = lineAsked board (λ b. readAsked b text lent)
@@ -119,66 +119,139 @@ readOutcome board text lent = lineAsked board (λ b. readAsked b text lent)
 abbrev pub writeOutcome : List ℕ → List ℕ → ℕ → Outcome (List ℕ)
 writeOutcome board list lent = lineAsked board (λ b. writeAsked b list lent)
 
-pub read-stops : (board text : List ℕ) (lent : ℕ) → Stops (refusals readLine) (42 ∷ ofMoves) (readOutcome board text lent)
+checked-checked : {A : Type 0} (v w : Verdict) (o : Outcome A) → checked v (checked w o) ≡ checked (after v w) o
+checked-checked (given u) w o = refl
+checked-checked (refused n) w o = refl
+
+-- a board's tests, then others, then what is left
+line-by : {A : Type 0} (bytes : List ℕ) (ts : List Test) (v : Verdict) (o : Outcome A) → v ≡ firstFailing ts
+    → checked (unless (eqb (length bytes) boardRoom) 12 fine) (checked (after (examined (boardIn bytes)) v) o) ≡ checked (firstFailing (boards bytes ++ ts)) o
+line-by bytes ts v o e =
+    let long = eqb (length bytes) boardRoom in
+    checked-checked (unless long 12 fine) (after (examined (boardIn bytes)) v) o
+    ∙ ap (λ (w : Verdict). checked w o) (after-test long 12 (after (examined (boardIn bytes)) v))
+    ∙ ap (λ (w : Verdict). checked (unless long 12 (after (examined (boardIn bytes)) w)) o) e ∙ ap (λ (w : Verdict). checked w o) (boards-then bytes ts)
+
+-- what a text that is short enough is read as
+abbrev readRest : Table → Reading → Outcome (List Move)
+readRest t (wrong p) = refusesAt 42 p
+readRest t (jots js) = movesFrom t 0 js
+
+read-rest : (t : Table) (r : Reading) → readBy t r ≡ checked (unless (notTooLong r) 31 fine) (readRest t r)
+read-rest t (wrong p) = refl
+read-rest t (jots js) = refl
+
+read-rest-stops : (t : Table) (r : Reading) → Stops [] (42 ∷ ofMoves) (readRest t r)
+read-rest-stops t (wrong p) = refl
+read-rest-stops t (jots js) = wider [] ofMoves 42 (movesFrom t 0 js) (moves-stop [] js t 0)
+
+read-by : (i : In readLine) (l : Places readLine)
+    → readOutcome (i .0) (i .1) (length (l .0)) ≡ checked (firstFailing (order readLine i l)) (readRest (shown (boardIn (i .0))) (lineIn (i .1)))
 unfolding readAsked lineRead
-read-stops board text lent =
-    let ns = refusals readLine in
-    let ps : List ℕ = 42 ∷ ofMoves in
-    let room : Verdict = unless (leb listRoom lent) 21 fine in
-    by-checked ns ps (unless (eqb (length board) boardRoom) 12 fine) _ (by-test ns (eqb (length board) boardRoom) 12 fine refl tt)
-    (by-checked ns ps (after (examined (boardIn board)) room) _
-    (by-verdict ns (examined (boardIn board)) room (board-refuses ns refl refl refl refl (boardIn board)) (by-test ns (leb listRoom lent) 21 fine refl tt))
-    (reading (shown (boardIn board)) (lineIn text)))
-  where
-    reading : (t : Table) (r : Reading) → Stops (refusals readLine) (42 ∷ ofMoves) (readBy t r)
-    reading t (wrong p) = refl
-    reading t (jots js) =
-        by-checked (refusals readLine) (42 ∷ ofMoves) (unless (leb (length js) mostMoves) 31 fine) (movesFrom t 0 js) (by-test (refusals readLine) (leb (length js) mostMoves) 31 fine refl tt)
-        (wider (refusals readLine) ofMoves 42 (movesFrom t 0 js) (moves-stop (refusals readLine) js t 0))
+read-by i l =
+    let b = boardIn (i .0) in
+    let room : Verdict = unless (leb listRoom (length (l .0))) 21 fine in
+    let few : Verdict = unless (notTooLong (lineIn (i .1))) 31 fine in
+    let rest = readRest (shown b) (lineIn (i .1)) in
+    ap (λ (o : Outcome (List Move)). checked (unless (eqb (length (i .0)) boardRoom) 12 fine) (checked (after (examined b) room) o)) (read-rest (shown b) (lineIn (i .1)))
+    ∙ ap (λ (o : Outcome (List Move)). checked (unless (eqb (length (i .0)) boardRoom) 12 fine) o)
+    (checked-checked (after (examined b) room) few rest ∙ ap (λ (v : Verdict). checked v rest) (after-after (examined b) room few))
+    ∙ line-by (i .0) (roomFor listRoom (l .0) ++ ((notTooLong (lineIn (i .1)), 31) ∷ [])) (after room few) rest (after-test (leb listRoom (length (l .0))) 21 few)
 
-pub write-stops : (board list : List ℕ) (lent : ℕ) → Stops (refusals writeLine) (43 ∷ ofMoves) (writeOutcome board list lent)
-unfolding writeAsked
-write-stops board list lent =
-    let ns = refusals writeLine in
+-- what a list that is one is written as, with room for it
+abbrev writeRest : Board → List ℕ → Outcome (List ℕ)
+writeRest b list = playedThrough (lineFrom b (recordsIn list)) (writtenThrough (movesIn list) (gives (textOf (shown b) (movesIn list))))
+
+write-rest-stops : (b : Board) (list : List ℕ) → Stops [] (43 ∷ ofMoves) (writeRest b list)
+write-rest-stops b list =
     let ps : List ℕ = 43 ∷ ofMoves in
-    let b = boardIn board in
     let ms = movesIn list in
-    let line : Verdict = unless (isLine list) 31 fine in
-    let room : Verdict = unless (leb textRoom lent) 21 fine in
     let ending = lineFrom b (recordsIn list) in
-    by-checked ns ps (unless (eqb (length board) boardRoom) 12 fine) _ (by-test ns (eqb (length board) boardRoom) 12 fine refl tt)
-    (by-checked ns ps (after (examined b) line) _ (by-verdict ns (examined b) line (board-refuses ns refl refl refl refl b) (by-test ns (isLine list) 31 fine refl tt))
-    (by-checked-at ns ps (ending .verdict) (ending .moves) _ (refuses-more 43 ofMoves (ending .verdict) (line-refuses (recordsIn list) b))
-    (by-checked-at ns ps (unless (eqb (writableFirst ms) (length ms)) 43 fine) (writableFirst ms) _ (by-test ps (eqb (writableFirst ms) (length ms)) 43 fine refl tt)
-    (by-checked ns ps room (gives (textOf (shown b) ms)) (by-test ns (leb textRoom lent) 21 fine refl tt) tt))))
+    by-checked-at [] ps (ending .verdict) (ending .moves) _ (refuses-more 43 ofMoves (ending .verdict) (line-refuses (recordsIn list) b))
+    (by-checked-at [] ps (unless (eqb (writableFirst ms) (length ms)) 43 fine) (writableFirst ms) _ (by-test ps (eqb (writableFirst ms) (length ms)) 43 fine refl tt) tt)
 
--- ---- who is told more than a bare refusal has sent a well-formed board
+-- room is asked for last
+room-last : {A : Type 0} (v : Verdict) (p : ℕ) (ok : Bool) (q : ℕ) (wide : Bool) (x : A)
+    → checkedAt v p (checkedAt (unless ok 43 fine) q (checked (unless wide 21 fine) (gives x)))
+    ≡ checked (unless (not (isFine v && ok) || wide) 21 fine) (checkedAt v p (checkedAt (unless ok 43 fine) q (gives x)))
+room-last (refused n) p ok q wide x = refl
+room-last (given u) p false q wide x = refl
+room-last (given u) p true q true x = refl
+room-last (given u) p true q false x = refl
 
-module _ {A : Type 0} where
-  abbrev pub Told : Outcome A → Type 0
-  Told (gives x) = Unit {0}
-  Told (refuses n) = ⊥
-  Told (refusesAt n p) = Unit {0}
+write-by : (i : In writeLine) (l : Places writeLine)
+    → writeOutcome (i .0) (i .1) (length (l .0)) ≡ checked (firstFailing (order writeLine i l)) (writeRest (boardIn (i .0)) (i .1))
+unfolding writeAsked
+write-by i l =
+    let b = boardIn (i .0) in
+    let ms = movesIn (i .1) in
+    let ending = lineFrom b (recordsIn (i .1)) in
+    let all-written = eqb (writableFirst ms) (length ms) in
+    let line : Verdict = unless (isLine (i .1)) 31 fine in
+    let wide = not (goesOnPaper (i .0) (i .1)) || leb textRoom (length (l .0)) in
+    let room : Verdict = unless wide 21 fine in
+    let rest = writeRest b (i .1) in
+    ap (λ (o : Outcome (List ℕ)). checked (unless (eqb (length (i .0)) boardRoom) 12 fine) (checked (after (examined b) line) o))
+    (room-last (ending .verdict) (ending .moves) all-written (writableFirst ms) (leb textRoom (length (l .0))) (textOf (shown b) ms))
+    ∙ ap (λ (o : Outcome (List ℕ)). checked (unless (eqb (length (i .0)) boardRoom) 12 fine) o)
+    (checked-checked (after (examined b) line) room rest ∙ ap (λ (v : Verdict). checked v rest) (after-after (examined b) line room))
+    ∙ line-by (i .0) ((isLine (i .1), 31) ∷ (wide, 21) ∷ []) (after line room) rest (after-test (isLine (i .1)) 31 room)
 
-  pub checked-told : (v : Verdict) (o : Outcome A) → Told (checked v o) → (v ≡ fine) × Told o
-  checked-told (given u) o t = (refl, t)
-  checked-told (refused n) o t = absurd t
+-- ---- their rows of the table
 
-  pub line-good : (bytes : List ℕ) (w : Board → Verdict) (o : Board → Outcome A) → Told (lineAsked bytes (λ b. checked (after (examined b) (w b)) (o b))) → GoodBoard bytes
-  line-good bytes w o t =
-      let r = checked-told (unless (eqb (length bytes) boardRoom) 12 fine) _ t in
-      let v = checked-told (after (examined (boardIn bytes)) (w (boardIn bytes))) (o (boardIn bytes)) (r .1) in
-      good-board bytes (eqb-true (length bytes) 432 (given-by (eqb (length bytes) boardRoom) 12 fine (r .0) .0)) (given-after tt (examined (boardIn bytes)) (w (boardIn bytes)) (v .0) .0)
+module _ {A : Type 0} (ps : List ℕ) (old : List ℕ × ℕ) (room : Outcome (List A) → List ℕ) (same : (n : ℕ) → room (refuses n) ≡ old .0) where
+  abbrev leaves-so : Outcome (List A) → Left (List ℕ × ℕ)
+  leaves-so o = withRoom (room o) (countLeft (counted o) (old .1))
 
--- ---- what a call leaves
+  paper-held : (v : Verdict) (rest : Outcome (List A)) → Stops [] ps rest → Held (λ n. eqb n 0 || isIn n ps) old v (leaves-so (checked v rest))
+  paper-held (refused n) rest s = ap (λ (l : List ℕ). left {A = List ℕ × ℕ} n (l, old .1)) (same n)
+  paper-held (given u) (gives l) s = refl
+  paper-held (given u) (refuses n) s = true-or-not false s refl
+  paper-held (given u) (refusesAt n p) s = ap (λ (b : Bool). eqb n 0 || b) s ∙ or-true (eqb n 0)
 
-module _ {A : Type 0} (ns ps : List ℕ) {Good : Type 0} {old : List ℕ × ℕ} (differ : all (λ n. not (eqb n 0 || isIn n ps)) ns ≡ true) where
-  pub paper-keeps : (o : Outcome (List A)) (room : Outcome (List A) → List ℕ) → ((n : ℕ) → room (refuses n) ≡ old .0) → Stops ns ps o → (Told o → Good)
-      → Keeps (λ n. eqb n 0 || isIn n ps) ns Good old (withRoom (room o) (countLeft (counted o) (old .1)))
-  paper-keeps (gives l) room q s g = hands-back differ refl (g tt)
-  paper-keeps (refuses n) room q s g =
-      subst (λ (l : List ℕ). Keeps (λ k. eqb k 0 || isIn k ps) ns Good old (left n (l, old .1))) (sym (q n)) (crossing.refuses differ s)
-  paper-keeps (refusesAt n p) room q s g = hands-back differ (ap (λ (b : Bool). eqb n 0 || b) s ∙ or-true (eqb n 0)) (g tt)
+pub read-line-ruled : (i : In readLine) (l : Places readLine) → Ruled readLine i l
+unfolding lineReadLeft
+read-line-ruled i l =
+    let room : Outcome (List Move) → List ℕ = λ o. listAfter o (l .0) in
+    subst (λ (o : Outcome (List Move)). Held (hands readLine) l (firstFailing (order readLine i l)) (withRoom (listAfter o (l .0)) (countLeft (counted o) (l .1)))) (sym (read-by i l))
+    (paper-held (42 ∷ ofMoves) l room (λ n. refl) (firstFailing (order readLine i l)) (readRest (shown (boardIn (i .0))) (lineIn (i .1))) (read-rest-stops (shown (boardIn (i .0))) (lineIn (i .1))))
+
+pub write-line-ruled : (i : In writeLine) (l : Places writeLine) → Ruled writeLine i l
+unfolding lineWrittenLeft
+write-line-ruled i l =
+    let room : Outcome (List ℕ) → List ℕ = λ o. textAfter o (l .0) in
+    subst (λ (o : Outcome (List ℕ)). Held (hands writeLine) l (firstFailing (order writeLine i l)) (withRoom (textAfter o (l .0)) (countLeft (counted o) (l .1)))) (sym (write-by i l))
+    (paper-held (43 ∷ ofMoves) l room (λ n. refl) (firstFailing (order writeLine i l)) (writeRest (boardIn (i .0)) (i .1)) (write-rest-stops (boardIn (i .0)) (i .1)))
+
+-- ---- so each stops with a number of its row, or with one that comes with a place
+
+-- the numbers of the rows
+abbrev pub readRefusals : List ℕ
+readRefusals = numbers (order readLine ([], []) ([], 0))
+
+abbrev pub writeRefusals : List ℕ
+writeRefusals = numbers (order writeLine ([], []) ([], 0))
+
+bare-stops : {A : Type 0} (ns ps : List ℕ) (o : Outcome A) → Stops [] ps o → Stops ns ps o
+bare-stops ns ps (gives x) s = tt
+bare-stops ns ps (refuses n) s = true-or-not false s refl
+bare-stops ns ps (refusesAt n p) s = s
+
+pub read-stops : (board text lent : List ℕ) → Stops readRefusals (42 ∷ ofMoves) (readOutcome board text (length lent))
+read-stops board text lent =
+    let i : In readLine = (board, text) in
+    let l : Places readLine = (lent, 0) in
+    let rest = readRest (shown (boardIn board)) (lineIn text) in
+    subst (Stops readRefusals (42 ∷ ofMoves)) (sym (read-by i l))
+    (by-checked readRefusals (42 ∷ ofMoves) (firstFailing (order readLine i l)) rest (first-refuses (order readLine i l)) (bare-stops readRefusals (42 ∷ ofMoves) rest (read-rest-stops (shown (boardIn board)) (lineIn text))))
+
+pub write-stops : (board list lent : List ℕ) → Stops writeRefusals (43 ∷ ofMoves) (writeOutcome board list (length lent))
+write-stops board list lent =
+    let i : In writeLine = (board, list) in
+    let l : Places writeLine = (lent, 0) in
+    let rest = writeRest (boardIn board) list in
+    subst (Stops writeRefusals (43 ∷ ofMoves)) (sym (write-by i l))
+    (by-checked writeRefusals (43 ∷ ofMoves) (firstFailing (order writeLine i l)) rest (first-refuses (order writeLine i l)) (bare-stops writeRefusals (43 ∷ ofMoves) rest (write-rest-stops (boardIn board) list)))
 
 -- ---- a call that is done gave what was asked for; one that is not wrote nothing
 

@@ -1,8 +1,8 @@
 -- The list that a search brought, given to corbelnib_replay: it ends well, on the board after its last move.
-use mathlib.Core.Path.{_≡_, refl, sym, ap, _∙_, subst}
+use mathlib.Core.Path.{_≡_, refl, sym, ap, ap₂, _∙_, subst}
 use mathlib.Core.Bool.{Bool, true, false}
-use mathlib.Core.List.{List, [], _∷_, _++_}
-use Prim.Native.Nat.{ℕ, _*_, _%_, _≤_}
+use mathlib.Core.List.{List}
+use Prim.Native.Nat.{ℕ, _≤_}
 use native.Mathlib.Omega.{arith}
 use lib.ListN.{length, take, drop}
 use lib.Seq.{take-at}
@@ -19,7 +19,7 @@ use Rattle.board.proofs.Fair.{fair-laid, fair-sound}
 use Rattle.questions.specs.Questions.{wonOn}
 use Rattle.moves.specs.declared.Move.{Move}
 use Rattle.replay.specs.Line.{Ending, lineFrom, recordsIn, isLine}
-use Rattle.replay.specs.Played.{afterMoves, recordsOf}
+use Rattle.replay.specs.Played.{afterMoves}
 use Rattle.replay.proofs.Replaying.{a-line}
 use Rattle.replay.proofs.Legal.{legal-fair, records-written}
 use Rattle.moves.specs.Written.{bytesOf}
@@ -29,22 +29,22 @@ use Rattle.search.specs.Claims.{bringsList}
 use Rattle.solver.specs.Told.{HandsOver}
 use Rattle.solver.specs.Told as solver
 use Rattle.solver.proofs.Calls as calls
-use Rattle.corbelnib.specs.Wire.{boardRoom, boardIn}
-use Rattle.corbelnib.specs.Wire as wire
-use Rattle.corbelnib.specs.Crossing.{Left, left}
-use Rattle.corbelnib.specs.Boards.{lineLeft, replayLeft}
-use Rattle.corbelnib.specs.Judged.{isAnswer}
-use Rattle.corbelnib.proofs.Handing.{line-yes}
+use Rattle.crossing.specs.Wire.{boardRoom, boardIn}
+use Rattle.crossing.specs.Wire as wire
+use Rattle.crossing.specs.Crossing.{Left, left, told}
+use Rattle.crossing.specs.Boards.{lineLeft, replayLeft}
+use Rattle.crossing.specs.Numbers.{isAnswer}
+use Rattle.crossing.proofs.Handing.{line-yes}
 use Rattle.corbelnib.proofs.Calls.{is-answer}
-use Rattle.corbelnib.proofs.Returning as returning
-use Rattle.demands.specs.Calls.{replay, judge, Call, GoodBoard}
+use Rattle.crossing.proofs.Returning as returning
+use Rattle.corbelnib.specs.Calls.{replay, judge, Call, GoodBoard}
 use Rattle.demands.specs.Demand2.{Replays, tableIn, handed, endOf}
 use Rattle.demands.proofs.Crossing.{good-asked}
 use Rattle.demands.proofs.Searching.{good-search, searching, same-number, sized}
 
 -- ---- the bytes of a list are its records
 
-is-line : (ms : List Move) → length ms ≤ 200 → isLine (bytesOf ms) ≡ true
+pub is-line : (ms : List Move) → length ms ≤ 200 → isLine (bytesOf ms) ≡ true
 is-line ms h = let l = bytes-long ms in a-line (bytesOf ms) (omega arith) (omega arith)
 
 -- ---- a board at the start of lent room
@@ -76,6 +76,20 @@ module _ (t : Table) (f : Fair t) (room : List ℕ) where
         shape = subst (λ (b : Board). shapely b ≡ true) (sym laid-board) (sound-shape record-sound);
         fair = subst Fair (sym laid-table) f;
       }
+
+-- ---- a list replayed from a well-formed board, with room for the board where it ends
+
+module _ (r : Call replay) (good : GoodBoard (r .input .0)) (line : isLine (r .input .1) ≡ true) (room : boardRoom ≤ length (r .before .0)) where
+  pub ends-at : {e : Ending} → lineFrom (boardIn (r .input .0)) (recordsIn (r .input .1)) ≡ e
+      → left (r .number) (r .after) ≡ left {A = List ℕ × ℕ} (told (e .verdict)) (over (wire.bytesOf (e .board)) (r .before .0), e .moves)
+  unfolding replayLeft
+  ends-at {e} q =
+      r .keeps
+      ∙ ap (λ (a : Answer Ending). lineLeft a (r .before .0) (r .before .1))
+      (good-asked (λ b. unless (isLine (r .input .1)) 31 (given (lineFrom b (recordsIn (r .input .1))))) good
+      ∙ ap (λ (ok : Bool). unless ok 31 (given (lineFrom (boardIn (r .input .0)) (recordsIn (r .input .1))))) line
+      ∙ ap (λ (x : Ending). given x) q)
+      ∙ sym (line-yes e (r .before .0) (r .before .1) room refl refl)
 
 -- ---- the replay
 
@@ -116,25 +130,18 @@ module _ (c : Call judge) (r : Call replay) (p : Replays c r) where
   abbrev ending : Ending
   ending = record { verdict = fine; moves = length moved; board = boardOf (last c (p .brought)) }
 
-  line-is : (b : Board) → b ≡ boardIn (c .input .board) → unless (isLine (r .input .1)) 31 (given (lineFrom b (recordsIn (r .input .1)))) ≡ given ending
-  line-is b e =
-      let list = p .list ∙ handed-are c (p .brought) in
-      let plays = list-of c (p .brought) .plays in
-      ap (λ (l : List ℕ). unless (isLine l) 31 (given (lineFrom b (recordsIn l)))) list
-      ∙ ap (λ (ok : Bool). unless ok 31 (given (lineFrom b (recordsIn (bytesOf moved))))) (is-line moved (plays .short))
-      ∙ ap (λ (rs : List (List ℕ)). given (lineFrom b rs)) (records-written moved)
-      ∙ ap (λ (x : Board). given (lineFrom x (recordsOf moved))) e
-      ∙ ap (λ (x : Ending). given x) (plays .replays)
+  whole-list : r .input .1 ≡ bytesOf moved
+  whole-list = p .list ∙ handed-are c (p .brought)
+
+  line-is : lineFrom (boardIn (r .input .0)) (recordsIn (r .input .1)) ≡ ending
+  line-is =
+      ap₂ (λ (board list : List ℕ). lineFrom (boardIn board) (recordsIn list)) (p .board) whole-list
+      ∙ ap (lineFrom (boardIn (c .input .board))) (records-written moved) ∙ list-of c (p .brought) .plays .replays
 
   pub replay-is : left (r .number) (r .after) ≡ left {A = List ℕ × ℕ} 0 (over (wire.bytesOf (boardOf (last c (p .brought)))) (r .before .0), length moved)
-  unfolding replayLeft
   replay-is =
       let good = subst GoodBoard (sym (p .board)) (good-search c (c .input .board) refl (brought-answer (c .number) (p .brought)) .board) in
-      r .keeps
-      ∙ ap (λ (a : Answer Ending). lineLeft a (r .before .0) (r .before .1))
-      (good-asked (λ b. unless (isLine (r .input .1)) 31 (given (lineFrom b (recordsIn (r .input .1))))) good
-      ∙ line-is (boardIn (r .input .0)) (ap boardIn (p .board)))
-      ∙ sym (line-yes ending (r .before .0) (r .before .1) (p .room) refl refl)
+      ends-at r good (ap isLine whole-list ∙ is-line moved (list-of c (p .brought) .plays .short)) (p .room) line-is
 
   pub replay-number : r .number ≡ 0
   replay-number = ap (λ (l : Left (List ℕ × ℕ)). l .number) replay-is

@@ -1,16 +1,17 @@
--- Calls of corbelnib_season and corbelnib_add: demand 1 of them, and what they are answered with.
+-- Calls of corbelnib_season and corbelnib_add: their rows of the table of orders, and what they are answered with.
 use mathlib.Core.Path.{_≡_, refl, sym, ap, _∙_}
-use mathlib.Core.Bool.{Bool, true, false, _&&_}
+use mathlib.Core.Bool.{true}
 use mathlib.Core.List.{List}
 use Prim.Native.Nat.{ℕ, _<_, _≤_}
+use borrow.Author.Tests.{leb-true}
 use lib.Dec.{eqb, leb}
 use lib.ListN.{length, take, drop}
 use lib.Seq.{take-at}
-use Rattle.base.specs.Answer.{Answer, given, refused, unless}
+use Rattle.base.specs.Answer.{Answer, given, refused}
 use Rattle.base.specs.Put.{over}
 use Rattle.base.specs.Words.{all}
 use Rattle.base.proofs.Answers.{given-by}
-use Rattle.base.proofs.Words.{first, second}
+use Rattle.board.specs.Verdict.{fine}
 use Rattle.intake.specs.Number.{isNumber}
 use Rattle.solver.specs.Searched.{mostPops}
 use Rattle.sheets.specs.Figures.{sheetRoom}
@@ -20,39 +21,48 @@ use Rattle.sheets.specs.Adding.{sameSettings, apart, added, addAsked}
 use Rattle.sheets.proofs.Goodness.{good-is}
 use Rattle.season.specs.Season.{Lent, filled, resultOf, seasonAsked, seasonIn}
 use Rattle.season.proofs.Accepting.{all-given, no-first, no-last, over-budget, no-sheet, no-node}
-use Rattle.season.proofs.Leaving.{given-is}
 use Rattle.season.proofs.Seasons.{season-good}
-use Rattle.corbelnib.specs.Crossing.{Left, left, told, crossed}
-use Rattle.corbelnib.specs.Values.{valueLeft}
-use Rattle.corbelnib.specs.Judged.{flag}
+use Rattle.crossing.specs.Crossing.{Left, left, told, crossed}
+use Rattle.crossing.specs.Values.{valueLeft}
+use Rattle.crossing.specs.Numbers.{flag}
 use Rattle.corbelnib.specs.Season.{seasonLeft, addLeft}
-use Rattle.demands.specs.Calls.{season, add, Call, promise}
-use Rattle.demands.specs.Demand1.{hands, refusals, GoodRun, Addable, ClearedAll}
+use Rattle.corbelnib.specs.Calls.{In, Places, season, add, Call, settingsBy}
+use Rattle.demands.specs.Orders.{firstFailing, order}
+use Rattle.demands.specs.Demand1.{hands, GoodRun, ClearedAll}
 use Rattle.demands.specs.SeasonsFigures.{sheetBy, settings, runOf, Sum}
-use Rattle.demands.proofs.Refusing.{Refuses, by-test}
-use Rattle.demands.proofs.Crossing.{Keeps, crosses, kept}
+use Rattle.demands.proofs.Ordering.{untested, tested, both-tested, crosses, Ruled, call-examines}
 
 -- ---- a season
+
+pub season-ruled : (r : In season) (l : Places season) → Ruled season r l
+unfolding seasonLeft seasonIn seasonAsked
+season-ruled r l =
+    let s = settingsBy r l in
+    let x = sheetOver s (resultOf s) (between (r .first) (r .last)) in
+    crosses (hands season) l (order season r l) x (λ words. left 0 (filled l words))
+    (both-tested (isNumber (r .first)) (isNumber (r .last)) 41
+    (tested (leb (r .budget) mostPops) 20 (tested (leb sheetRoom (length (l .sheet))) 21 (tested (leb 1 (s .capacity)) 22 (untested x)))))
+    refl
+
+-- a season of which no test fails
+passed-run : (c : Call season) → firstFailing (order season (c .input) (c .before)) ≡ fine → GoodRun c
+passed-run c e =
+    let f = given-by (isNumber (c .input .first)) 41 _ e in
+    let l = given-by (isNumber (c .input .last)) 41 _ (f .1) in
+    let b = given-by (leb (c .input .budget) mostPops) 20 _ (l .1) in
+    let s = given-by (leb sheetRoom (length (c .before .sheet))) 21 _ (b .1) in
+    let r = given-by (leb 1 (settings c .capacity)) 22 _ (s .1) in
+    record {
+      begins = f .0;
+      ends = l .0;
+      budget = leb-true (c .input .budget) mostPops (b .0);
+      sheet = leb-true sheetRoom (length (c .before .sheet)) (s .0);
+      root = leb-true 1 (settings c .capacity) (r .0);
+    }
 
 module _ (c : Call season) where
   abbrev asked : Answer (List ℕ)
   asked = seasonAsked (c .input .first) (c .input .last) (settings c) (length (c .before .sheet))
-
-  asked-refuses : Refuses (refusals season) asked
-  unfolding seasonAsked
-  asked-refuses =
-      by-test (refusals season) (isNumber (c .input .first) && isNumber (c .input .last)) 41 _ refl
-      (by-test (refusals season) (leb (c .input .budget) mostPops) 20 _ refl
-      (by-test (refusals season) (leb sheetRoom (length (c .before .sheet))) 21 _ refl
-      (by-test (refusals season) (leb 1 (settings c .capacity)) 22 (given _) refl tt)))
-
-  pub season-keeps : Keeps (hands season) (refusals season) (GoodRun c) (c .before) (promise season (c .input) (c .before))
-  unfolding seasonLeft seasonIn all
-  season-keeps =
-      crosses refl asked _ asked-refuses
-      (λ x e.
-      let g = given-is (c .input .first) (c .input .last) (settings c) (length (c .before .sheet)) x e in
-      (refl, record { begins = g .begins; ends = g .ends; budget = g .cheap; sheet = g .wide; root = g .some }))
 
   -- what is left, by the answer
   left-by : {a : Answer (List ℕ)} → asked ≡ a → left (c .number) (c .after) ≡ crossed a (c .before) (λ words. left 0 (filled (c .before) words))
@@ -86,7 +96,8 @@ module _ (c : Call season) where
     run-sheet = ap (λ (l : Lent). take sheetRoom (l .sheet)) run-left ∙ take-at whole (drop (length whole) (c .before .sheet)) sheetRoom whole-long
 
   pub done-good : c .number ≡ 0 → GoodRun c
-  done-good e = kept season c season-keeps .examines (ap (λ (n : ℕ). eqb n 0) e)
+  unfolding all
+  done-good e = passed-run c (call-examines c (season-ruled (c .input) (c .before)) refl (ap (λ (n : ℕ). eqb n 0) e))
 
   -- the sheet that was written is what was asked for
   pub done-asked : c .number ≡ 0 → asked ≡ given (sheetBy c)
@@ -104,22 +115,14 @@ module _ (c : Call season) where
 
 -- ---- a sum
 
-module _ (c : Call add) where
-  pub add-keeps : Keeps (hands add) (refusals add) (Addable (c .before) (c .input)) (c .before) (promise add (c .input) (c .before))
-  unfolding addLeft addAsked all
-  add-keeps =
-      let a = c .before in
-      let b = c .input in
-      let sum : Answer (List ℕ) = given (added a b) in
-      crosses refl (addAsked a b) _
-      (by-test (refusals add) (goodSheet a && goodSheet b) 47 _ refl
-      (by-test (refusals add) (sameSettings a b) 45 _ refl (by-test (refusals add) (apart a b) 44 sum refl tt)))
-      (λ x e.
-      let u = given-by (goodSheet a && goodSheet b) 47 (unless (sameSettings a b) 45 (unless (apart a b) 44 sum)) e in
-      let v = given-by (sameSettings a b) 45 (unless (apart a b) 44 sum) (u .1) in
-      let w = given-by (apart a b) 44 sum (v .1) in
-      (refl, record { one = first (goodSheet a) (goodSheet b) (u .0); two = second (goodSheet a) (goodSheet b) (u .0); same = v .0; free = w .0 }))
+pub add-ruled : (other : In add) (into : Places add) → Ruled add other into
+unfolding addLeft addAsked
+add-ruled other into =
+    let x = added into other in
+    crosses (hands add) into (order add other into) x (λ sum. left 0 sum)
+    (both-tested (goodSheet into) (goodSheet other) 47 (tested (sameSettings into other) 45 (tested (apart into other) 44 (untested x)))) refl
 
+module _ (c : Call add) where
   pub sum-by : {a : Answer (List ℕ)} → addAsked (c .before) (c .input) ≡ a → left (c .number) (c .after) ≡ valueLeft a (c .before)
   unfolding addLeft
   sum-by e = c .keeps ∙ ap (λ (a : Answer (List ℕ)). valueLeft a (c .before)) e
@@ -130,13 +133,20 @@ module _ (c : Call add) where
   pub a-sum : {x : List ℕ} → addAsked (c .before) (c .input) ≡ given x → Sum c x
   a-sum e = record { done = ap (λ (l : Left (List ℕ)). l .number) (sum-by e); sheet = ap (λ (l : Left (List ℕ)). l .places) (sum-by e) }
 
-  -- sheets that can be added
-  addable : Addable (c .before) (c .input) → addAsked (c .before) (c .input) ≡ given (added (c .before) (c .input))
+  -- sheets of which no test fails
+  addable : goodSheet (c .before) ≡ true → goodSheet (c .input) ≡ true → sameSettings (c .before) (c .input) ≡ true → apart (c .before) (c .input) ≡ true
+      → addAsked (c .before) (c .input) ≡ given (added (c .before) (c .input))
   unfolding addAsked
-  addable g = rw (g .one, g .two, g .same, g .free)
+  addable one two same free = rw (one, two, same, free)
 
   -- a sum that was given is what was asked for
   pub sum-asked : c .number ≡ 0 → addAsked (c .before) (c .input) ≡ given (c .after)
+  unfolding all
   sum-asked e =
-      let q = addable (kept add c add-keeps .examines (ap (λ (n : ℕ). eqb n 0) e)) in
-      q ∙ ap given (sym (a-sum q .sheet))
+      let none = call-examines c (add-ruled (c .input) (c .before)) refl (ap (λ (n : ℕ). eqb n 0) e) in
+      let p = given-by (goodSheet (c .before)) 47 _ none in
+      let q = given-by (goodSheet (c .input)) 47 _ (p .1) in
+      let r = given-by (sameSettings (c .before) (c .input)) 45 _ (q .1) in
+      let s = given-by (apart (c .before) (c .input)) 44 _ (r .1) in
+      let sum = addable (p .0) (q .0) (r .0) (s .0) in
+      sum ∙ ap given (sym (a-sum sum .sheet))

@@ -2,11 +2,12 @@
 use mathlib.Core.Path.{_≡_, refl, sym, ap, ap₂, _∙_, subst}
 use mathlib.Core.Bool.{Bool, true, false, _&&_, _||_}
 use mathlib.Core.List.{List}
+use mathlib.Core.Logic.{_⊎_, inl, inr}
 use Prim.Native.Nat.{ℕ, suc, _+_, _<_, _≤_}
 use native.Mathlib.Omega.{arith}
 use lib.ListN.{length}
 use Rattle.base.specs.Answer.{Answer, given, refused}
-use Rattle.base.proofs.Words.{second-fails}
+use Rattle.base.proofs.Words.{not-so, first-fails, second-fails}
 use Rattle.board.specs.Record.{shown}
 use Rattle.shuffle.specs.Shuffle.{deckOf}
 use Rattle.intake.specs.Deal.{dealt}
@@ -14,23 +15,25 @@ use Rattle.intake.specs.Number.{isNumber}
 use Rattle.solver.proofs.Calls.{gives, answered-accepted}
 use Rattle.sheets.specs.declared.Side.{Side}
 use Rattle.sheets.specs.Figures.{told, markList, markDeal}
-use Rattle.sheets.specs.Over.{Settings, Result, sheetOver, between, zeroSheet}
+use Rattle.sheets.specs.Over.{Settings, Result, between, zeroSheet}
 use Rattle.sheets.specs.Good.{covered, wins, goodSheet}
-use Rattle.sheets.specs.Adding.{sameSettings, apart, addAsked}
+use Rattle.sheets.specs.Adding.{sameSettings, apart, added, addAsked}
 use Rattle.sheets.proofs.Goodness.{good-is, mark-none}
-use Rattle.sheets.proofs.Adding.{sum-good, add-comm, add-assoc}
+use Rattle.sheets.proofs.Adding.{sum-good, add-comm, add-assoc, overs-asked}
 use Rattle.season.specs.Season.{resultOf, seasonAsked}
-use Rattle.season.proofs.Answers.{found-result}
+use Rattle.season.proofs.Answers.{found-result, each-answered}
 use Rattle.season.proofs.Accepting.{no-first, no-last, over-budget, no-sheet, no-node}
-use Rattle.season.proofs.Seasons.{season-good, season-empty, season-covers, seasons-add, season-parts, seasons-agree}
-use Rattle.corbelnib.specs.Crossing.{Left, left}
-use Rattle.corbelnib.specs.Judged.{flag, isAnswer}
-use Rattle.corbelnib.specs.Wire.{boardIn}
-use Rattle.demands.specs.Calls.{number, judge, season, add, Call}
+use Rattle.season.proofs.Seasons.{season-good, season-empty, season-covers, season-parts, seasons-agree}
+use Rattle.crossing.specs.Crossing.{Left, left}
+use Rattle.crossing.specs.Numbers.{flag, isAnswer}
+use Rattle.crossing.specs.Wire.{boardIn}
+use Rattle.corbelnib.specs.Calls.{number, judge, season, add, Call}
 use Rattle.demands.specs.HandsByNumber.{dealtBy}
-use Rattle.demands.specs.SeasonsFigures.{sheetBy, settings, runOf, settingsOf, Adds, Sum, SeasonsFigures}
+use Rattle.demands.specs.BadSheet.{Bad}
+use Rattle.demands.specs.SeasonsFigures.{sheetBy, settings, runOf, figures, settingsOf, Adds, Sum, Fine, SeasonsFigures}
 use Rattle.demands.proofs.Searching.{searching, same-number, answered}
 use Rattle.demands.proofs.HandsByNumber.{is-number, enough, handsByNumber}
+use Rattle.demands.proofs.BadSheet.{good-not-bad, not-bad-good, not-good-bad}
 use Rattle.demands.proofs.Seasons.{refused-with, run-done, run-sheet, done-good, done-asked, sum-by, no-sum, a-sum, sum-asked}
 
 -- ---- one deal
@@ -65,13 +68,10 @@ asked-at c s e done =
 adds-to : (a : Call add) {x y z : List ℕ} → Adds a x y → addAsked x y ≡ given z → Sum a z
 adds-to a h e = a-sum a (ap₂ addAsked (h .into) (h .other) ∙ e)
 
-both-added : (x y : Call season) (a : Call add) → x .number ≡ 0 → y .number ≡ 0 → settings x ≡ settings y
-    → ((n : ℕ) → n < 32000 → (runOf x (suc n) && runOf y (suc n)) ≡ false) → Adds a (sheetBy x) (sheetBy y)
-    → Sum a (sheetOver (settings x) (resultOf (settings x)) (λ n. runOf x n || runOf y n))
-both-added x y a p q e none h =
-    adds-to a h
-    (seasons-add (x .input .first) (x .input .last) (y .input .first) (y .input .last) (settings x) (length (x .before .sheet)) (length (y .before .sheet)) (sheetBy x) (sheetBy y)
-    (done-asked x p) (asked-at y (settings x) (sym e) q) none)
+both-added : (s : Settings) (p q : ℕ → Bool) (a : Call add) → s .budget ≤ 1000000 → ((n : ℕ) → n < 32000 → (p (suc n) && q (suc n)) ≡ false)
+    → Adds a (figures s p) (figures s q) → Sum a (figures s (λ n. p n || q n))
+both-added s p q a low none h =
+    adds-to a h (overs-asked s (resultOf s) low p q none (λ i l t. each-answered s (suc i)) (λ i l t. each-answered s (suc i)))
 
 in-parts : (x y z : Call season) (a : Call add) → x .number ≡ 0 → y .number ≡ 0 → z .number ≡ 0 → settings x ≡ settings z → settings y ≡ settings z
     → x .input .first ≡ z .input .first → y .input .last ≡ z .input .last → y .input .first ≡ x .input .last + 1
@@ -114,17 +114,58 @@ any-order ab abc bc a-bc p q h k l =
 -- ---- refusals
 
 module _ (a : Call add) where
-  is-bad : (goodSheet (a .before) && goodSheet (a .input)) ≡ false → a .number ≡ 47
+  abbrev into-good : Bool
+  into-good = goodSheet (a .before)
+
+  abbrev other-good : Bool
+  other-good = goodSheet (a .input)
+
+  is-bad : (into-good && other-good) ≡ false → a .number ≡ 47
   unfolding addAsked
   is-bad e = no-sum a (rw e)
 
-  is-unequal : goodSheet (a .before) ≡ true → goodSheet (a .input) ≡ true → sameSettings (a .before) (a .input) ≡ false → a .number ≡ 45
-  unfolding addAsked
-  is-unequal p q e = no-sum a (rw (p, q, e))
+  breaks : Bad (a .before) ⊎ Bad (a .input) → a .number ≡ 47
+  breaks (inl b) = is-bad (first-fails into-good other-good (not-so into-good (λ t. good-not-bad (a .before) t b)))
+  breaks (inr b) = is-bad (second-fails into-good other-good (not-so other-good (λ t. good-not-bad (a .input) t b)))
 
-  is-common : goodSheet (a .before) ≡ true → goodSheet (a .input) ≡ true → sameSettings (a .before) (a .input) ≡ true → apart (a .before) (a .input) ≡ false → a .number ≡ 44
-  unfolding addAsked
-  is-common p q r e = no-sum a (rw (p, q, r, e))
+  module _ (p : into-good ≡ true) (q : other-good ≡ true) where
+    is-unequal : sameSettings (a .before) (a .input) ≡ false → a .number ≡ 45
+    unfolding addAsked
+    is-unequal e = no-sum a (rw (p, q, e))
+
+    module _ (r : sameSettings (a .before) (a .input) ≡ true) where
+      is-common : apart (a .before) (a .input) ≡ false → a .number ≡ 44
+      unfolding addAsked
+      is-common e = no-sum a (rw (p, q, r, e))
+
+      is-added : apart (a .before) (a .input) ≡ true → a .number ≡ 0
+      unfolding addAsked
+      is-added e = a-sum a {x = added (a .before) (a .input)} (rw (p, q, r, e)) .done
+
+  -- 47 with two good sheets would be 45, 44 or 0
+  only-breaks : a .number ≡ 47 → Bad (a .before) ⊎ Bad (a .input)
+  only-breaks e = by-good into-good refl other-good refl
+    where
+      never : (n : ℕ) → n < 47 → a .number ≡ n → Bad (a .before) ⊎ Bad (a .input)
+      never n l f = absurd (let w : ⊥ = omega arith in w)
+
+      by-last : into-good ≡ true → other-good ≡ true → (s t : Bool) → sameSettings (a .before) (a .input) ≡ s → apart (a .before) (a .input) ≡ t
+          → Bad (a .before) ⊎ Bad (a .input)
+      by-last p q false t u v = never 45 (omega arith) (is-unequal p q u)
+      by-last p q true false u v = never 44 (omega arith) (is-common p q u v)
+      by-last p q true true u v = never 0 (omega arith) (is-added p q u v)
+
+      by-good : (s : Bool) → into-good ≡ s → (t : Bool) → other-good ≡ t → Bad (a .before) ⊎ Bad (a .input)
+      by-good false u t v = inl (not-good-bad (a .before) u)
+      by-good true u false v = inr (not-good-bad (a .input) v)
+      by-good true u true v = by-last u v (sameSettings (a .before) (a .input)) (apart (a .before) (a .input)) refl refl
+
+  module _ (f : Fine a) where
+    one-good : into-good ≡ true
+    one-good = not-bad-good (a .before) (f .into)
+
+    two-good : other-good ≡ true
+    two-good = not-bad-good (a .input) (f .other)
 
 no-end : (c : Call season) → isNumber (c .input .last) ≡ false → c .number ≡ 41
 unfolding seasonAsked
@@ -147,11 +188,13 @@ seasonsFigures =
       dear = λ c p q h. refused-with c (over-budget (c .input .first) (c .input .last) (c .input .budget) (settings c .capacity) (length (c .before .sheet)) p q h (flag (c .input .partial)));
       narrow = λ c p q h k. refused-with c (no-sheet (c .input .first) (c .input .last) (c .input .budget) (settings c .capacity) (length (c .before .sheet)) p q h k (flag (c .input .partial)));
       rootless = λ c p q h k l. refused-with c (no-node (c .input .first) (c .input .last) (c .input .budget) (settings c .capacity) (length (c .before .sheet)) p q h k l (flag (c .input .partial)));
-      bad = is-bad;
-      unequal = is-unequal;
-      common = is-common;
-      good = sheet-good;
-      goodSum = λ a e. sum-good (a .before) (a .input) (a .after) (sum-asked a e);
+      bad = breaks;
+      onlyBad = only-breaks;
+      unequal = λ a f. is-unequal a (one-good a f) (two-good a f);
+      common = λ a f. is-common a (one-good a f) (two-good a f);
+      accepted = λ a f. is-added a (one-good a f) (two-good a f);
+      good = λ c e. good-not-bad (sheetBy c) (sheet-good c e);
+      goodSum = λ a e. good-not-bad (a .after) (sum-good (a .before) (a .input) (a .after) (sum-asked a e));
       twoMasters = λ x y p q b e s.
           seasons-agree (x .input .first) (x .input .last) (settings x) (length (x .before .sheet)) (length (y .before .sheet)) (sheetBy x) (sheetBy y) (done-asked x p)
           (ap₂ (λ (n m : ℕ). seasonAsked n m (settings x) (length (y .before .sheet))) b e ∙ asked-at y (settings x) (sym s) q);

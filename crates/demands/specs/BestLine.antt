@@ -6,8 +6,8 @@ use Rattle.signature.specs.Signed.{signatureOf}
 use Rattle.search.specs.Solve.{Node, start}
 use Rattle.search.specs.Freecell.{freecell}
 use Rattle.search.specs.Claims.{Struck, bestOf, Borne}
-use Rattle.corbelnib.specs.Judged.{flag}
-use Rattle.demands.specs.Calls.{replay, judge, Call, capacityIn}
+use Rattle.crossing.specs.Numbers.{flag}
+use Rattle.corbelnib.specs.Calls.{replay, judge, Call, capacityIn}
 use Rattle.demands.specs.Demand1.{GoodSearch}
 use Rattle.demands.specs.Demand2.{tableIn, Answers, Replays, endOf}
 use Rattle.demands.specs.Demand3.{Accepted, SameList, NoLess}

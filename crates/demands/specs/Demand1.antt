@@ -3,24 +3,21 @@
 -- crates/corbelnib/src/lib.rt asks anything of its caller (`requires`), and each is proved to end. What the promises say is here.
 use mathlib.Core.Path.{_≡_}
 use mathlib.Core.Bool.{Bool, true, false, _||_}
-use mathlib.Core.List.{List, [], _∷_, _++_}
+use mathlib.Core.List.{List, [], _∷_}
 use Prim.Native.Nat.{ℕ, _≤_}
 use lib.Dec.{eqb}
 use lib.ListN.{length, getD}
-use Rattle.base.specs.Answer.{given}
-use Rattle.board.specs.declared.Board.{Board}
-use Rattle.intake.specs.Image.{imageRead}
-use Rattle.intake.specs.Deal.{dealAsked}
+use Rattle.base.specs.Answer.{given, refused}
+use Rattle.board.specs.Verdict.{Verdict, fine}
 use Rattle.intake.specs.Number.{isNumber}
 use Rattle.base.specs.Blank.{blank}
-use Rattle.corbelnib.specs.Judged.{isAnswer}
-use Rattle.demands.specs.Calls.{Entry, examine, read, deal, number, move, replay, chain, moves, candidates, token, priority, scores, signature, features, capacity, judge, readLine, writeLine, season, add, top, cell, home, most, won, safe}
-use Rattle.demands.specs.Calls.{boundary, Call, GoodBoard, capacityIn, settingsBy}
+use Rattle.crossing.specs.Numbers.{isAnswer}
+use Rattle.corbelnib.specs.Calls.{Entry, examine, read, deal, number, move, replay, chain, moves, candidates, token, priority, scores, signature, features, capacity, judge, readLine, writeLine, season, add, top, cell, home, most, won, safe, version}
+use Rattle.corbelnib.specs.Calls.{In, Places, Call, GoodBoard, capacityIn, settingsBy}
 use Rattle.moves.specs.Written.{listRoom}
 use Rattle.solver.specs.Searched.{mostPops}
 use Rattle.sheets.specs.Figures.{sheetRoom}
-use Rattle.sheets.specs.Good.{goodSheet}
-use Rattle.sheets.specs.Adding.{sameSettings, apart}
+use Rattle.demands.specs.Orders.{firstFailing, boards, order}
 
 -- ---- SCOPE.md's numbers
 
@@ -28,42 +25,9 @@ abbrev pub isIn : ℕ → List ℕ → Bool
 isIn n [] = false
 isIn n (m ∷ l) = eqb n m || isIn n l
 
--- of a board that is not well formed
-abbrev pub boards : List ℕ
-boards = 12 ∷ 13 ∷ 14 ∷ 15 ∷ []
-
 -- of a move that is refused, in the order in which they are looked for
 abbrev pub ofMoves : List ℕ
 ofMoves = 30 ∷ 33 ∷ 35 ∷ 34 ∷ 36 ∷ 37 ∷ 38 ∷ 39 ∷ 40 ∷ []
-
--- the refusals of each function; corbelnib_capacity tells a count and refuses nothing
-abbrev pub refusals : Entry → List ℕ
-refusals examine = boards
-refusals read = 10 ∷ 11 ∷ 12 ∷ 13 ∷ 14 ∷ 15 ∷ 21 ∷ []
-refusals deal = 16 ∷ 13 ∷ 14 ∷ 21 ∷ []
-refusals number = 41 ∷ 21 ∷ []
-refusals move = boards ++ (ofMoves ++ (21 ∷ []))
-refusals replay = boards ++ (31 ∷ 21 ∷ [])
-refusals chain = boards ++ (21 ∷ [])
-refusals moves = boards ++ (30 ∷ 21 ∷ [])
-refusals candidates = boards ++ (21 ∷ [])
-refusals token = boards ++ (21 ∷ [])
-refusals priority = boards ++ ofMoves
-refusals scores = boards
-refusals signature = boards
-refusals features = boards ++ (21 ∷ [])
-refusals capacity = []
-refusals judge = boards ++ (20 ∷ 21 ∷ 22 ∷ [])
-refusals readLine = boards ++ (21 ∷ 31 ∷ [])
-refusals writeLine = boards ++ (31 ∷ 21 ∷ [])
-refusals season = 41 ∷ 20 ∷ 21 ∷ 22 ∷ []
-refusals add = 47 ∷ 45 ∷ 44 ∷ []
-refusals top = boards ++ (30 ∷ [])
-refusals cell = boards ++ (30 ∷ [])
-refusals home = boards ++ (30 ∷ [])
-refusals most = boards ++ (30 ∷ [])
-refusals won = boards
-refusals safe = boards ++ (21 ∷ [])
 
 -- the numbers with which a function hands something back. A replay that meets a bad move (30, 33 to 40) tells its place
 -- and the board before it; a search without node room (23) tells its pops; a line on paper tells the place of a wrong character (42), of a
@@ -95,16 +59,14 @@ hands home n = eqb n 0
 hands most n = eqb n 0
 hands won n = eqb n 0
 hands safe n = eqb n 0
+hands version n = true
 
--- ---- what a function must have found when it hands something back
+-- what a function tells after its tests: the number of the first that fails; where none fails, something is handed back
+abbrev pub Tells : Entry → Verdict → ℕ → Type 0
+Tells e (refused n) told = told ≡ n
+Tells e (given u) told = hands e told ≡ true
 
-pub record IsImage (bytes : List ℕ) : Type 0 where
-  pub board : Board
-  pub reads : imageRead bytes ≡ given board
-
-pub record IsDeck (bytes : List ℕ) : Type 0 where
-  pub board : Board
-  pub deals : dealAsked bytes ≡ given board
+-- ---- a search and a season of which no test fails, for what the other demands ask
 
 -- a search: a well-formed board, a budget of at most 1,000,000, a list buffer of 1,000 bytes, room for the root
 pub record GoodSearch (c : Call judge) : Type 0 where
@@ -120,41 +82,6 @@ pub record GoodRun (c : Call season) : Type 0 where
   pub budget : c .input .budget ≤ mostPops
   pub sheet : sheetRoom ≤ length (c .before .sheet)
   pub root : 1 ≤ settingsBy (c .input) (c .before) .capacity
-
--- two sheets that can be added: good ones, of the same settings, with no number in both
-pub record Addable (into other : List ℕ) : Type 0 where
-  pub one : goodSheet into ≡ true
-  pub two : goodSheet other ≡ true
-  pub same : sameSettings into other ≡ true
-  pub free : apart into other ≡ true
-
-abbrev pub Examined : (e : Entry) → Call e → Type 0
-Examined examine c = GoodBoard (c .input)
-Examined read c = IsImage (c .input)
-Examined deal c = IsDeck (c .input)
-Examined number c = isNumber (c .input) ≡ true
-Examined move c = GoodBoard (c .input .0)
-Examined replay c = GoodBoard (c .input .0)
-Examined chain c = GoodBoard (c .input)
-Examined moves c = GoodBoard (c .input .0)
-Examined candidates c = GoodBoard (c .input)
-Examined token c = GoodBoard (c .input)
-Examined priority c = GoodBoard (c .input .0)
-Examined scores c = GoodBoard (c .input)
-Examined signature c = GoodBoard (c .input)
-Examined features c = GoodBoard (c .input)
-Examined capacity c = Unit {0}
-Examined judge c = GoodSearch c
-Examined readLine c = GoodBoard (c .input .0)
-Examined writeLine c = GoodBoard (c .input .0)
-Examined season c = GoodRun c
-Examined add c = Addable (c .before) (c .input)
-Examined top c = GoodBoard (c .input .0)
-Examined cell c = GoodBoard (c .input .0)
-Examined home c = GoodBoard (c .input .0)
-Examined most c = GoodBoard (c .input .0)
-Examined won c = GoodBoard (c .input)
-Examined safe c = GoodBoard (c .input)
 
 -- ---- how a call ends
 
@@ -177,7 +104,12 @@ pub record ClearedAll (c : Call season) : Type 0 where
   pub keys : c .after .keys ≡ blank (c .before .keys)
   pub costs : c .after .costs ≡ blank (c .before .costs)
 
--- which of the twenty-six a function is
+-- all of the functions that C can call (tools/boundary.sh holds this list against the code and the header)
+unfoldable pub boundary : List Entry
+boundary =
+    examine ∷ read ∷ deal ∷ number ∷ move ∷ replay ∷ chain ∷ moves ∷ candidates ∷ token ∷ priority ∷ scores ∷ signature ∷ features ∷ capacity ∷ judge ∷ readLine ∷ writeLine ∷ season ∷ add ∷ top ∷ cell ∷ home ∷ most ∷ won ∷ safe ∷ version ∷ []
+
+-- which of the twenty-seven a function is
 abbrev pub placeOf : Entry → ℕ
 placeOf examine = 0
 placeOf read = 1
@@ -205,18 +137,23 @@ placeOf home = 22
 placeOf most = 23
 placeOf won = 24
 placeOf safe = 25
+placeOf version = 26
 
 pub record Demand1 : Type 0 where
   -- "Nothing traps, nothing runs on. No board image, deck, move, list, budget or lent memory makes it trap": whatever goes in and
-  -- whatever lies in the lent places, there is one end
+  -- whatever lies in the lent places, there is an end, and one alone
+  pub someEnd : {e : Entry} (i : In e) (b : Places e) → (c : Call e) × ((c .input ≡ i) × (c .before ≡ b))
   pub oneEnd : {e : Entry} (x y : Call e) → x .input ≡ y .input → x .before ≡ y .before → SameEnd x y
-  -- "Every entry point ..": these twenty-six
-  pub many : length boundary ≡ 26
+  -- "Every entry point ..": these twenty-seven
+  pub many : length boundary ≡ 27
   pub all : (e : Entry) → getD boundary (placeOf e) judge ≡ e
-  -- ".. examines what it gets": a function that hands something back was given what SCOPE.md asks for
-  pub examines : {e : Entry} (c : Call e) → hands e (c .number) ≡ true → Examined e c
-  -- "a refusal returns its number from document 01": a number with which nothing is handed back is one of the function's refusals
-  pub numbered : {e : Entry} (c : Call e) → (hands e (c .number) || isIn (c .number) (refusals e)) ≡ true
+  -- ".. examines what it gets": where something is handed back, no test of the function's row failed
+  pub examines : {e : Entry} (c : Call e) → hands e (c .number) ≡ true → firstFailing (order e (c .input) (c .before)) ≡ fine
+  -- a board of which no test fails is a well-formed one, with each of the 52 cards once; and of a well-formed one none fails
+  pub wellFormed : (bytes : List ℕ) → firstFailing (boards bytes) ≡ fine → GoodBoard bytes
+  pub accepts : {bytes : List ℕ} → GoodBoard bytes → firstFailing (boards bytes) ≡ fine
+  -- "a refusal returns its number from document 01": that of the first test that fails; and with none failing something is handed back
+  pub numbered : {e : Entry} (c : Call e) → Tells e (firstFailing (order e (c .input) (c .before))) (c .number)
   -- "and changes nothing lent"
   pub keeps : {e : Entry} (c : Call e) → hands e (c .number) ≡ false → c .after ≡ c .before
   -- "(running out of node room clears the scratch)", and so do the answers and a season; out of room, the list buffer stays

@@ -2,7 +2,7 @@
 -- The theorem is that the code is the definition: `found`, `candidates`, `heuristic`, `progress`, `signatureOf` and the search, `judge`.
 -- That these definitions are the original's is no theorem; it is shown by comparison: compare/ holds every C function against the
 -- original Rust on random boards, deals, boards that meet the depth limit and damaged input (README tells how), and the gate runs a
--- sample of the same (crates oracle_boards, oracle_moves, oracle_signatures, oracle_scores, oracle_judge, oracle_calls and texts).
+-- sample of the same (crates oracle_boards, oracle_moves, oracle_signatures, oracle_scores and texts; tests/oracles).
 use mathlib.Core.Path.{_≡_}
 use mathlib.Core.Bool.{true}
 use mathlib.Core.List.{List, []}
@@ -21,17 +21,17 @@ use Rattle.generate.specs.Asked.{recordRoom}
 use Rattle.generate.specs.declared.Way.{Way}
 use Rattle.signature.specs.Fnv.{fnv}
 use Rattle.signature.specs.Signed.{signatureOf, columnHashes}
-use Rattle.score.specs.Features.{featuresOf}
+use Rattle.features.specs.Features.{featuresOf}
 use Rattle.score.specs.Scores.{heuristic, progress}
 use Rattle.candidates.specs.Candidates.{candidates as tried}
 use Rattle.search.specs.Solve.{Answer}
 use Rattle.search.specs.Claims.{bringsList}
 use Rattle.search.specs.Freecell.{freecell, judge as search-of}
-use Rattle.solver.specs.Searched.{movesOf}
-use Rattle.corbelnib.specs.Wire.{boardRoom, boardIn}
-use Rattle.corbelnib.specs.Lists.{wayAsked}
-use Rattle.corbelnib.specs.Judged.{flag}
-use Rattle.demands.specs.Calls.{replay, moves, candidates, scores, signature, judge, Call, GoodBoard, capacityIn}
+use Rattle.finish.specs.Said.{movesOf}
+use Rattle.crossing.specs.Wire.{boardRoom, boardIn}
+use Rattle.crossing.specs.Lists.{wayAsked}
+use Rattle.crossing.specs.Numbers.{flag}
+use Rattle.corbelnib.specs.Calls.{replay, moves, candidates, scores, signature, judge, Call, GoodBoard, capacityIn}
 use Rattle.demands.specs.Demand1.{GoodSearch}
 use Rattle.demands.specs.Fnv1a.{fnv1a, isOctet}
 

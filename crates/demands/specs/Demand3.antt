@@ -8,8 +8,8 @@ use lib.Dec.{eqb}
 use lib.IntN.{ℤ}
 use lib.ListN.{length}
 use lib.Signed.{leZ}
-use Rattle.corbelnib.specs.Judged.{flag, isAnswer}
-use Rattle.demands.specs.Calls.{replay, scores, judge, Call, capacityIn}
+use Rattle.crossing.specs.Numbers.{flag, isAnswer}
+use Rattle.corbelnib.specs.Calls.{replay, scores, judge, Call, capacityIn}
 use Rattle.demands.specs.Demand2.{handed, Replays, endOf}
 use Rattle.moves.specs.Written.{listRoom}
 use Rattle.solver.specs.Searched.{mostPops}

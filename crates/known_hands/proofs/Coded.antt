@@ -20,7 +20,7 @@ use Rattle.questions.specs.declared.CountAnswer.{CountAnswer}
 use Rattle.rules.specs.Limit.{mostMoved}
 use Rattle.rules.specs.Asked.{mostAsked, yesTold}
 use Rattle.rules.specs.declared.YesNo.{YesNo}
-use Rattle.score.specs.Features.{featuresOf}
+use Rattle.features.specs.Features.{featuresOf}
 use Rattle.score.specs.Scores.{heuristic, progress}
 use Rattle.score.specs.Asked.{scoreTold, heuristicAsked, progressAsked}
 use Rattle.score.specs.declared.ScoreAnswer.{ScoreAnswer}

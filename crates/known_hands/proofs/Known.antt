@@ -22,7 +22,7 @@ use Rattle.moves.specs.Written.{bytesOf}
 use Rattle.base.specs.Rising.{placed, rising}
 use Rattle.signature.specs.Fnv.{xorDigits, fnvStep, fnvFrom, fnv}
 use Rattle.signature.specs.Signed.{homeWords, columnHashes, wordsOf, signed, signatureOf}
-use Rattle.score.specs.Features.{greatest, least, lastGoesHome, immediateOn, blockedIn, blockedOn, imbalanceOf, cellsUsed, longestRun, featuresOf}
+use Rattle.features.specs.Features.{greatest, least, lastGoesHome, immediateOn, blockedIn, blockedOn, imbalanceOf, cellsUsed, longestRun, featuresOf}
 use Rattle.score.specs.Scores.{heuristic, progress, heuristicKey, progressKey}
 use Rattle.priority.specs.Priority.{priorityAdds, priorityTakes, priority, priorityOn}
 use Rattle.safe.specs.Safe.{redSuit, needed, safe, chosen, isSafe, homeMoves, firstOf, firstSafe}

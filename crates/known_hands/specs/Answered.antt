@@ -11,7 +11,7 @@ use Rattle.moves.specs.Written.{written}
 use Rattle.score.specs.Asked.{scoreTold}
 use Rattle.score.specs.declared.ScoreAnswer.{ScoreAnswer}
 use Rattle.search.specs.Solve.{Perhaps}
-use Rattle.solver.specs.Searched.{movesOf}
+use Rattle.finish.specs.Said.{movesOf}
 use Rattle.solver.specs.Told.{Call, number}
 use Rattle.known_hands.specs.Hands.{sameScore, sameList}
 

@@ -9,7 +9,7 @@ use Rattle.card.specs.Card.{isCard}
 use Rattle.board.specs.Table.{Table}
 use Rattle.rules.specs.Limit.{mostMoved}
 use Rattle.moves.specs.Written.{bytesOf}
-use Rattle.score.specs.Features.{featuresOf}
+use Rattle.features.specs.Features.{featuresOf}
 use Rattle.score.specs.Scores.{heuristic, progress}
 use Rattle.safe.specs.Safe.{safe}
 use Rattle.moves.specs.declared.Move.{Move}

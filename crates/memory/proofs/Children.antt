@@ -12,9 +12,9 @@ use Rattle.board.proofs.Fair.{shows-fair, fair-laid, fair-sound}
 use Rattle.moves.specs.Move.{count}
 use Rattle.moves.specs.declared.Move.{Move}
 use Rattle.play.specs.Change.{Ready}
-use Rattle.score.specs.Features.{Bounded, featuresOf}
+use Rattle.features.specs.Features.{Bounded, featuresOf}
 use Rattle.score.specs.Scores.{heuristicKey}
-use Rattle.score.proofs.Bounds.{bounded}
+use Rattle.features.proofs.Bounds.{bounded}
 use Rattle.score.proofs.Keys.{heuristic-adds-most}
 use Rattle.candidates.specs.Children.{childMoves, childTable}
 use Rattle.candidates.specs.Inner.{Playable, Bears}

@@ -9,7 +9,7 @@ use lib.ListN.{length}
 use Rattle.board.specs.Table.{Table}
 use Rattle.base.specs.Rising.{placed}
 use Rattle.frontier.proofs.Packed.{number-packed, packed-first}
-use Rattle.score.specs.Features.{featuresOf}
+use Rattle.features.specs.Features.{featuresOf}
 use Rattle.score.specs.Scores.{heuristicKey}
 use Rattle.nodes.specs.Line.{lineTo, tableTo}
 use Rattle.search.specs.Freecell.{freecell}

@@ -20,7 +20,7 @@ use Rattle.costs.specs.Table as costs
 use Rattle.costs.proofs.Slots.{table-none, unknown-none, slot-new}
 use Rattle.costs.proofs.Counting.{used-none, used-vacant}
 use Rattle.signature.specs.Signed.{signatureOf}
-use Rattle.score.specs.Features.{featuresOf}
+use Rattle.features.specs.Features.{featuresOf}
 use Rattle.score.specs.Scores.{heuristicKey, progressKey}
 use Rattle.nodes.specs.Line.{lineTo, tableTo}
 use Rattle.nodes.proofs.Climbing.{line-root, table-root}

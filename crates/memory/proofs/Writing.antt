@@ -23,7 +23,7 @@ use Rattle.costs.specs.Promises.{Held, Vacant, Place}
 use Rattle.costs.proofs.Slots.{slot-new, slot-stays}
 use Rattle.costs.proofs.Counting.{used-held, used-vacant}
 use Rattle.signature.specs.Signed.{signatureOf}
-use Rattle.score.specs.Features.{featuresOf}
+use Rattle.features.specs.Features.{featuresOf}
 use Rattle.score.specs.Scores.{heuristicKey, progressKey}
 use Rattle.candidates.specs.Children.{childMoves, childTable}
 use Rattle.nodes.specs.Step.{slotAt}

@@ -8,7 +8,7 @@ use Rattle.frontier.specs.Heap.{Heap, bag}
 use Rattle.costs.specs.Entries.{holds, used}
 use Rattle.costs.specs.Table as costs
 use Rattle.signature.specs.Signed.{signatureOf}
-use Rattle.score.specs.Features.{featuresOf}
+use Rattle.features.specs.Features.{featuresOf}
 use Rattle.score.specs.Scores.{progressKey}
 use Rattle.nodes.specs.Step.{slotAt}
 use Rattle.nodes.specs.Line.{tableTo}

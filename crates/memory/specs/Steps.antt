@@ -12,7 +12,7 @@ use Rattle.frontier.specs.Heap as frontier
 use Rattle.frontier.specs.Packing.{packed}
 use Rattle.costs.specs.Promises.{Held, Vacant, Stores}
 use Rattle.signature.specs.Signed.{signatureOf}
-use Rattle.score.specs.Features.{featuresOf}
+use Rattle.features.specs.Features.{featuresOf}
 use Rattle.score.specs.Scores.{heuristicKey, progressKey}
 use Rattle.nodes.specs.Step as nodes
 use Rattle.memory.specs.declared.Room.{Room}

@@ -6,7 +6,7 @@ use Rattle.board.specs.Table.{Table}
 use Rattle.frontier.specs.Heap.{bag}
 use Rattle.frontier.specs.Packing.{packed}
 use Rattle.signature.specs.Signed.{signatureOf}
-use Rattle.score.specs.Features.{featuresOf}
+use Rattle.features.specs.Features.{featuresOf}
 use Rattle.score.specs.Scores.{heuristicKey}
 use Rattle.nodes.specs.Line.{lineTo, tableTo}
 use Rattle.search.specs.Freecell.{freecell}

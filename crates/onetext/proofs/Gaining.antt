@@ -20,9 +20,10 @@ use Rattle.search.specs.Freecell.{freecell, judge}
 use Rattle.search.specs.Solve.{Perhaps, none, some, Answer}
 use Rattle.search.proofs.Judge.{T1, T4-pops}
 use Rattle.solver.specs.Capacity.{capacityOf}
-use Rattle.solver.specs.Searched.{saidNumber, Outcome, outcome, movesOf, accepted, answeredWith, searchedBy, searched}
-use Rattle.solver.specs.Inner.{Gives}
-use Rattle.solver.specs.declared.Judged.{Judged}
+use Rattle.finish.specs.Said.{saidNumber, movesOf}
+use Rattle.solver.specs.Searched.{Outcome, outcome, accepted, answeredWith, searchedBy, searched}
+use Rattle.finish.specs.Inner.{Gives}
+use Rattle.finish.specs.declared.Judged.{Judged}
 use Rattle.onetext.specs.Text.{line, moveLines, answerText}
 use Rattle.onetext.specs.Inner.{PutsFew, recordLines, Scratch}
 

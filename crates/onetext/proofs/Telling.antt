@@ -19,10 +19,10 @@ use Rattle.intake.specs.Handed.{Hands, boardTold}
 use Rattle.intake.specs.declared.Reading.{Reading}
 use Rattle.intake.proofs.Accepted.{Fine, read-fine, fine-sound}
 use Rattle.base.specs.Put.{Puts, over}
-use Rattle.score.specs.Features.{featuresOf, Bounded}
+use Rattle.features.specs.Features.{featuresOf, Bounded}
 use Rattle.score.specs.Token.{tokenOf}
-use Rattle.score.specs.declared.Features.{Features}
-use Rattle.score.proofs.Bounds.{bounded}
+use Rattle.features.specs.declared.Features.{Features}
+use Rattle.features.proofs.Bounds.{bounded}
 use Rattle.score.proofs.Digits.{token-32}
 use Rattle.base.proofs.Putting.{puts-long, puts-more, puts-same, puts-over}
 use Rattle.search.specs.Freecell.{judge}

@@ -11,11 +11,11 @@ use Rattle.board.specs.declared.Board.{Board}
 use Rattle.intake.specs.Image.{imageRead}
 use Rattle.moves.specs.Record.{recordOf}
 use Rattle.moves.specs.declared.Move.{Move}
-use Rattle.score.specs.Features.{featuresOf}
+use Rattle.features.specs.Features.{featuresOf}
 use Rattle.score.specs.Token.{decimal, tokenOf}
 use Rattle.search.specs.Freecell.{freecell, judge}
 use Rattle.search.specs.Solve as solve
-use Rattle.solver.specs.Searched.{movesOf}
+use Rattle.finish.specs.Said.{movesOf}
 
 -- what follows a number on its line: a space and the next number, or the newline
 unfoldable pub lineEnd : List ℕ → List ℕ

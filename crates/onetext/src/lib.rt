@@ -36,7 +36,7 @@ fn put_answer(
     let pops = j.pops as u8;
     let moves = j.moves as u8;
     let said = j.said;
-    let first = [solver::number(said), pops, moves];
+    let first = [finish::number(said), pops, moves];
     let after = write::put_line(out, at, &first);
     write::put_records(out, after, list, j.moves)
 }
@@ -47,7 +47,7 @@ fn put_hand(b: Board, out: &mut [u8]) -> usize
     requires { ⌜ 4096 ≤ length (now out) ⌝ }
     ensures { λ r. ⌜ Puts (now (out .entry)) (now (out .exit)) 0 r (handText (shown b)) ⌝ }
 {
-    let f = score::measure::compute_features(&b.cells, &b.foundation, &b.counts, &b.tableau);
+    let f = features::compute_features(&b.cells, &b.foundation, &b.counts, &b.tableau);
     let token = score::token::token_at(f, out);
     let after = base::put::put_bytes(out, token, b"\n");
     let mut nodes = [0u32; 192];

@@ -124,12 +124,12 @@ fn records(out: &[u8], n: usize) {
 
 fn found(b: Board, way: Way, out: &mut [u8]) -> CountAnswer {
     match way {
-        Way::ColumnToHome => generate::find_tableau_to_foundation(b, out),
-        Way::CellToHome => generate::find_freecell_to_foundation(b, out),
-        Way::HomeToColumn => generate::find_foundation_to_tableau(b, out),
-        Way::ColumnToColumn => generate::find_tableau_to_tableau(b, out),
-        Way::CellToColumn => generate::find_freecell_to_tableau(b, out),
-        Way::ColumnToCell => generate::find_tableau_to_freecell(b, out),
+        Way::ColumnToHome => generators::find_tableau_to_foundation(b, out),
+        Way::CellToHome => generators::find_freecell_to_foundation(b, out),
+        Way::HomeToColumn => generators::find_foundation_to_tableau(b, out),
+        Way::ColumnToColumn => generators::find_tableau_to_tableau(b, out),
+        Way::CellToColumn => generators::find_freecell_to_tableau(b, out),
+        Way::ColumnToCell => generators::find_tableau_to_freecell(b, out),
     }
 }
 
@@ -149,7 +149,7 @@ fn moves(b: Board, way: Way, kind: usize) {
 // A refused generator: its number, and how many bytes of the room stayed.
 fn refused(b: Board, out: &mut [u8]) {
     fill(out);
-    text::number(count(generate::find(b, Way::ColumnToCell, out)));
+    text::number(count(generators::find(b, Way::ColumnToCell, out)));
     text::number(kept(out, 0));
 }
 

@@ -14,20 +14,17 @@ use Rattle.base.proofs.Answers.{given-by}
 use Rattle.base.proofs.Words.{first}
 use Rattle.board.specs.Table.{Table}
 use Rattle.board.specs.Verdict.{Verdict, fine, after}
-use Rattle.board.specs.Record.{examined, shown, boardOf}
+use Rattle.board.specs.Record.{examined, shown}
 use Rattle.board.specs.Inner.{Sound, Sized}
 use Rattle.board.specs.declared.Board.{Board}
 use Rattle.board.proofs.Soundness.{sound, sound-fine}
 use Rattle.board.proofs.Fair.{shows-fair}
-use Rattle.moves.specs.Record.{possible, moveOf, moveAsked}
-use Rattle.moves.specs.Play.{afterMove, allowed}
-use Rattle.moves.specs.Causes.{ruling, played}
+use Rattle.moves.specs.Record.{moveOf}
 use Rattle.moves.specs.Written.{listRoom, bytesOf}
 use Rattle.moves.specs.declared.Move.{Move}
 use Rattle.moves.proofs.Saying.{record-of-move, said-of-record, move-of-record}
-use Rattle.moves.proofs.Ruling.{fine-allowed}
 use Rattle.moves.proofs.Writing.{bytes-long}
-use Rattle.replay.specs.Step.{recorded, playedOn, stepped}
+use Rattle.replay.specs.Step.{stepped}
 use Rattle.replay.specs.Line.{goOn, lineFrom, recordsIn, isLine}
 use Rattle.replay.specs.Played.{Legal, recordsOf}
 use Rattle.replay.proofs.Lining.{records-none, records-first}
@@ -35,9 +32,13 @@ use Rattle.replay.proofs.Keeping.{Bytes}
 use Rattle.replay.proofs.Replaying.{a-line, line-five}
 use Rattle.replay.proofs.Stepping.{sound-after, shown-after}
 use Rattle.replay.proofs.Legal.{records-written, line-legal}
-use Rattle.paper.specs.Lines.{Outcome, gives, checked, mostMoves, lineRead, textOf, writableFirst, Writable}
-use Rattle.paper.specs.Meant.{writable}
-use Rattle.paper.specs.Asked.{readAsked, textRoom, movesOf, movesIn, checkedAt, writeAsked}
+use Rattle.sense.specs.Outcome.{Outcome, gives, checked, mostMoves, checkedAt}
+use Rattle.reading.specs.Lines.{lineRead}
+use Rattle.writing.specs.Lines.{textOf, writableFirst, Writable}
+use Rattle.sense.specs.Meant.{writable}
+use Rattle.reading.specs.Asked.{readAsked}
+use Rattle.writing.specs.Asked.{textRoom, movesOf, movesIn, writeAsked}
+use Rattle.writing.proofs.Writing.{steps}
 use Rattle.paper.proofs.Reading.{read-back, read-texted}
 
 -- ---- an answer that is given passed its tests
@@ -99,28 +100,6 @@ records-all (suc n) l e =
 record Plays (t : Table) (rs : List (List ℕ)) : Type 0 where
   legal : Legal t (movesOf rs)
   bytes : bytesOf (movesOf rs) ≡ concat rs
-
--- one record that is played
-pub record Steps (b c : Board) (r : List ℕ) : Type 0 where
-  pub can : possible r ≡ true
-  pub ok : allowed (shown b) (moveOf r) ≡ true
-  pub board : c ≡ boardOf (afterMove (shown b) (moveOf r))
-
-played-steps : (b : Board) (m : Move) {c : Board} → recorded (played (shown b) m) ≡ given c → (allowed (shown b) m ≡ true) × (c ≡ boardOf (afterMove (shown b) m))
-unfolding played
-played-steps b m {c} e = by-ruling (ruling (shown b) m) refl e
-  where
-    by-ruling : (v : Verdict) → ruling (shown b) m ≡ v → recorded (after v (given (afterMove (shown b) m))) ≡ given c → (allowed (shown b) m ≡ true) × (c ≡ boardOf (afterMove (shown b) m))
-    by-ruling (given u) q e = (fine-allowed (shown b) m q, let s : c ≡ boardOf (afterMove (shown b) m) = cc in s)
-    by-ruling (refused n) q e = let z : _≡_ {A = ℕ} 0 1 = cc in absurd (let w : ⊥ = omega arith in w)
-
-pub steps : (b : Board) (r : List ℕ) {c : Board} → stepped b r ≡ given c → Steps b c r
-unfolding stepped moveAsked
-steps b r {c} e = by-record (possible r) refl e
-  where
-    by-record : (ok : Bool) → possible r ≡ ok → playedOn b (unless ok 30 (given (moveOf r))) ≡ given c → Steps b c r
-    by-record true q e = let p = played-steps b (moveOf r) e in record { can = q; ok = p .0; board = p .1 }
-    by-record false q e = let z : _≡_ {A = ℕ} 0 1 = cc in absurd (let w : ⊥ = omega arith in w)
 
 plays : (rs : List (List ℕ)) (b : Board) → Sound b → Counts rs → lineFrom b rs .verdict ≡ fine → Plays (shown b) rs
 unfolding lineFrom movesOf bytesOf concat

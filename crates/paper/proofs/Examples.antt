@@ -1,18 +1,20 @@
--- Lines read and written on three small boards, evaluated: every number of reading with its place, and texts outside the form.
+-- Lines read and written on four small boards, evaluated: every number of reading with its place, and texts outside the form.
 use mathlib.Core.Path.{_≡_, refl}
-use mathlib.Core.List.{List, [], _∷_}
+use mathlib.Core.List.{List, [], _∷_, _++_}
 use Prim.Native.Nat.{ℕ}
 use lib.ListN.{replicate}
 use Rattle.board.specs.Table.{Table}
 use Rattle.moves.specs.Written.{bytesOf}
 use Rattle.moves.specs.declared.Move.{Move}
-use Rattle.paper.specs.Jot.{lineText}
-use Rattle.paper.specs.Form.{formedBy, lineIn}
-use Rattle.paper.specs.Lines.{Outcome, gives, refuses, refusesAt, lineRead, textOf, writableFirst}
-use Rattle.paper.specs.Asked.{movesOf}
-use Rattle.paper.specs.declared.Formed.{Formed}
-use Rattle.paper.specs.declared.Formed.the-variants.{Moves, WrongAt}
-use Rattle.paper.specs.declared.Jot.the-variants.{ToHome}
+use Rattle.notation.specs.Jot.{lineText}
+use Rattle.notation.specs.Form.{formedBy, lineIn}
+use Rattle.writing.specs.Lines.{textOf, writableFirst}
+use Rattle.reading.specs.Lines.{lineRead}
+use Rattle.sense.specs.Outcome.{Outcome, gives, refuses, refusesAt}
+use Rattle.writing.specs.Asked.{movesOf}
+use Rattle.notation.specs.declared.Formed.{Formed}
+use Rattle.notation.specs.declared.Formed.the-variants.{Moves, WrongAt}
+use Rattle.notation.specs.declared.Jot.the-variants.{ToCell, ToHome}
 use Rattle.paper.proofs.Opened.{opened}
 
 -- what is read from some texts: the bytes of the moves' records, or the refusal
@@ -74,18 +76,38 @@ F =
           ∷ [];
     }
 
--- 12, 12v1, 22, 21, ah, 1a, 1h
+-- a run of twelve, KS QH .. 3S 2H, and one of eleven, KH QS .. 4S 3H; clubs and diamonds are home, AH, AS and 2S too
+abbrev R : Table
+R =
+    record {
+      cells = 255 ∷ 255 ∷ 255 ∷ 255 ∷ [];
+      foundation = 13 ∷ 13 ∷ 1 ∷ 2 ∷ [];
+      columns =
+          (211 ∷ 194 ∷ 179 ∷ 162 ∷ 147 ∷ 130 ∷ 115 ∷ 98 ∷ 83 ∷ 66 ∷ 51 ∷ 34 ∷ [])
+          ∷ []
+          ∷ (210 ∷ 195 ∷ 178 ∷ 163 ∷ 146 ∷ 131 ∷ 114 ∷ 99 ∷ 82 ∷ 67 ∷ 50 ∷ [])
+          ∷ []
+          ∷ []
+          ∷ []
+          ∷ []
+          ∷ []
+          ∷ [];
+    }
+
+-- 12, 12v1, 22, 21, 21v1 (no card comes before the count), ah, 1a, 1h
 on-S : reads S (
     (49 ∷ 50 ∷ [])
     ∷ (49 ∷ 50 ∷ 118 ∷ 49 ∷ [])
     ∷ (50 ∷ 50 ∷ [])
     ∷ (50 ∷ 49 ∷ [])
+    ∷ (50 ∷ 49 ∷ 118 ∷ 49 ∷ [])
     ∷ (97 ∷ 104 ∷ [])
     ∷ (49 ∷ 97 ∷ [])
     ∷ (49 ∷ 104 ∷ [])
     ∷ []) ≡ gives (1 ∷ 0 ∷ 1 ∷ 1 ∷ 211 ∷ [])
     ∷ refusesAt 30 0
     ∷ refusesAt 30 0
+    ∷ refusesAt 33 0
     ∷ refusesAt 33 0
     ∷ refusesAt 33 0
     ∷ gives (3 ∷ 0 ∷ 0 ∷ 1 ∷ 211 ∷ [])
@@ -181,6 +203,25 @@ places = refl
 too-many : reads S (lineText (replicate 201 (ToHome 1)) ∷ lineText (replicate 200 (ToHome 1)) ∷ []) ≡ refuses 31 ∷ refusesAt 33 0 ∷ []
 unfolding opened reads inBytes
 too-many = refl
+
+-- 42 comes before 31 however long the text is: 400 moves, `1a 1a .. 1a`, and an x behind them, 1,200 bytes
+wrong-at-the-end : reads S ((lineText (replicate 400 (ToCell 0 0)) ++ (120 ∷ [])) ∷ []) ≡ refusesAt 42 1199 ∷ []
+unfolding opened reads inBytes
+wrong-at-the-end = refl
+
+-- the digits past nine: eleven of the twelve are `12vb`, ten `12va`; 12 takes them all, so that 12vc is not below the most
+on-R : reads R ((49 ∷ 50 ∷ []) ∷ (49 ∷ 50 ∷ 118 ∷ 98 ∷ []) ∷ (49 ∷ 50 ∷ 118 ∷ 97 ∷ []) ∷ (49 ∷ 50 ∷ 118 ∷ 99 ∷ []) ∷ [])
+    ≡ gives (1 ∷ 0 ∷ 1 ∷ 12 ∷ 211 ∷ []) ∷ gives (1 ∷ 0 ∷ 1 ∷ 11 ∷ 194 ∷ []) ∷ gives (1 ∷ 0 ∷ 1 ∷ 10 ∷ 179 ∷ []) ∷ refusesAt 30 0 ∷ []
+unfolding opened reads inBytes
+on-R = refl
+
+eleven-down : textOf R (movesOf ((1 ∷ 0 ∷ 1 ∷ 11 ∷ 194 ∷ []) ∷ [])) ≡ 49 ∷ 50 ∷ 118 ∷ 98 ∷ []
+unfolding opened
+eleven-down = refl
+
+ten-down : textOf R (movesOf ((1 ∷ 0 ∷ 1 ∷ 10 ∷ 179 ∷ []) ∷ [])) ≡ 49 ∷ 50 ∷ 118 ∷ 97 ∷ []
+unfolding opened
+ten-down = refl
 
 -- three cards into the empty column are the most there, two are not; the nine goes home from its cell, and to the empty column
 on-paper : textOf M (movesOf ((1 ∷ 0 ∷ 1 ∷ 3 ∷ 179 ∷ []) ∷ (5 ∷ 0 ∷ 2 ∷ 1 ∷ 146 ∷ []) ∷ [])) ≡ 49 ∷ 50 ∷ 32 ∷ 97 ∷ 104 ∷ []

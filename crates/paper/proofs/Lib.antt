@@ -1,21 +1,8 @@
 -- Laws for the crates above.
-pub mod Signs
-pub mod Forming
-pub mod Stopping
-pub mod Meaning
-pub mod Finding
-pub mod Taking
-pub mod Cutting
-pub mod Passing
+pub mod Slipping
 pub mod Reading
-pub mod Handing
 pub mod Asking
-pub mod Checking
-pub mod Signing
-pub mod Noting
-pub mod Writing
-pub mod Looking
-pub mod Telling
+pub mod Going
+pub mod Sixth
 pub mod Opened
-pub mod Unique
 pub mod Examples

@@ -14,11 +14,12 @@ use Rattle.moves.specs.Play.{lastOf, othersOf, hand, without, afterMove}
 use Rattle.moves.specs.Causes.{causes, passes, firstOf, ruling}
 use Rattle.moves.specs.Written.{bytesOf}
 use Rattle.generate.specs.Found.{offered}
-use Rattle.paper.specs.Jot.{digitSign, jotText, lineText}
-use Rattle.paper.specs.Form.{within, digitSaid, stepFrom, readFrom, lineIn}
-use Rattle.paper.specs.Meant.{vacant, mostInto, fitFrom, fittingIn, fitting, countGoes, meant, jotOf}
-use Rattle.paper.specs.Lines.{movesFrom, lineRead, jotsOf, textOf, writableFirst}
-use Rattle.paper.specs.Asked.{movesOf}
+use Rattle.notation.specs.Jot.{digitSign, jotText, lineText}
+use Rattle.notation.specs.Form.{within, digitSaid, stepFrom, readFrom, lineIn}
+use Rattle.sense.specs.Meant.{vacant, mostInto, fitFrom, fittingIn, fitting, countGoes, meant, jotOf}
+use Rattle.reading.specs.Lines.{movesFrom, lineRead}
+use Rattle.writing.specs.Lines.{jotsOf, textOf, writableFirst}
+use Rattle.writing.specs.Asked.{movesOf}
 
 unfoldable pub opened : Unit {0}
 unfolding xor listed sum codeOf cardOf suitAt pile held emptyCells emptyColumns red follows isRun runLength fitsOn homeTakes usable mostMoved moveSaid moveOf recordOf lastOf othersOf hand without afterMove causes passes firstOf ruling bytesOf offered digitSign jotText lineText within digitSaid stepFrom readFrom lineIn vacant mostInto fitFrom fittingIn fitting countGoes meant jotOf movesFrom lineRead jotsOf textOf writableFirst movesOf

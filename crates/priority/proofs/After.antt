@@ -15,9 +15,9 @@ use Rattle.play.specs.Change.{Becomes, Ready}
 use Rattle.replay.proofs.Stepping.{became, sound-after, shown-after}
 use Rattle.generate.specs.Found.{wayOf}
 use Rattle.generate.specs.declared.Way.{Way}
-use Rattle.score.specs.Features.{Bounded, featuresOf}
-use Rattle.score.specs.declared.Features.{Features}
-use Rattle.score.proofs.Bounds.{bounded}
+use Rattle.features.specs.Features.{Bounded, featuresOf}
+use Rattle.features.specs.declared.Features.{Features}
+use Rattle.features.proofs.Bounds.{bounded}
 use Rattle.score.proofs.Signs.{sub-fits}
 use Rattle.priority.specs.Priority.{priorityAdds, priorityTakes, priority, priorityKey, priorityOn}
 use Rattle.priority.proofs.Sizes.{priority-adds-most, priority-takes-most}

@@ -7,8 +7,8 @@ use lib.IntN.{subℕ}
 use lib.Signed.{leZ}
 use Rattle.generate.specs.declared.Way.{Way}
 use Rattle.generate.specs.declared.Way.the-variants.{ColumnToColumn, ColumnToHome, ColumnToCell, CellToColumn, CellToHome, HomeToColumn}
-use Rattle.score.specs.Features.{Bounded}
-use Rattle.score.specs.declared.Features.{Features}
+use Rattle.features.specs.Features.{Bounded}
+use Rattle.features.specs.declared.Features.{Features}
 use Rattle.score.proofs.Keys.{raised, compared}
 use Rattle.priority.specs.Priority.{baseAdds, baseTakes, priorityAdds, priorityTakes, priority, priorityBias, priorityKey}
 

@@ -8,8 +8,8 @@ use Rattle.generate.specs.Found.{wayOf}
 use Rattle.generate.specs.declared.Way.{Way}
 use Rattle.generate.specs.declared.Way.the-variants.{ColumnToColumn, ColumnToHome, ColumnToCell, CellToColumn, CellToHome, HomeToColumn}
 use Rattle.score.specs.Weights.{LOOKAHEAD_FOUNDATION_OPTIONS_WEIGHT, LOOKAHEAD_EMPTY_COLUMNS_WEIGHT, LOOKAHEAD_FREE_USED_PENALTY, LOOKAHEAD_LOW_BLOCKED_PENALTY, PRIORITY_BASE_TO_FOUNDATION, PRIORITY_BASE_FREE_TO_TABLEAU, PRIORITY_BASE_TABLEAU_TO_TABLEAU, PRIORITY_BASE_TABLEAU_TO_FREE, PRIORITY_BASE_FROM_FOUNDATION, PRIORITY_FOUNDATION_GAIN_WEIGHT, PRIORITY_OPTIONS_GAIN_WEIGHT, PRIORITY_EMPTY_COL_GAIN_WEIGHT, PRIORITY_FREE_FREED_WEIGHT, PRIORITY_RUN_GAIN_WEIGHT, PRIORITY_LOW_UNBLOCK_WEIGHT}
-use Rattle.score.specs.Features.{featuresOf}
-use Rattle.score.specs.declared.Features.{Features}
+use Rattle.features.specs.Features.{featuresOf}
+use Rattle.features.specs.declared.Features.{Features}
 
 -- ---- the base of a kind
 

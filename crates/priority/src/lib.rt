@@ -8,17 +8,17 @@ ghost use Rattle.play.specs.Change.{Ready};
 ghost use Rattle.score.specs.Asked.{scoreTold};
 ghost use Rattle.priority.specs.Asked.{priorityBy, priorityAsked};
 ghost use Rattle.generate.specs.Found.{wayOf};
-ghost use Rattle.score.specs.Features.{Bounded, featuresOf};
+ghost use Rattle.features.specs.Features.{Bounded, featuresOf};
 ghost use Rattle.priority.specs.Priority.{baseAdds, baseTakes, priorityAdds, priorityTakes, priorityKey, priorityOn};
 use board::Board;
 use board::CODES;
 use board::Examined;
 use board::Refusal;
 use board::verdict::inspect;
+use features::Features;
 use generate::Way;
 use moves::Decoded;
 use moves::Move;
-use score::Features;
 use score::ScoreAnswer;
 use score::weights;
 
@@ -131,7 +131,7 @@ pub fn features_after<'a>(
         &mut then_counts,
         &mut then_tableau,
     );
-    score::measure::compute_features(&then_cells, &then_foundation, &then_counts, &then_tableau)
+    features::compute_features(&then_cells, &then_foundation, &then_counts, &then_tableau)
 }
 
 // The raised priority of a move that can be made.
@@ -162,7 +162,7 @@ fn local_priority<'a>(
     requires { ⌜ Ready (laid (now cells) (now foundation) (now counts) (now tableau)) m ⌝ }
     ensures { λ r. ⌜ r ≡ priorityOn (shown (laid (now (cells .entry)) (now (foundation .entry)) (now (counts .entry)) (now (tableau .entry)))) m ⌝ }
 {
-    let before = score::measure::compute_features(cells, foundation, counts, tableau);
+    let before = features::compute_features(cells, foundation, counts, tableau);
     let after = features_after(cells, foundation, counts, tableau, m);
     let way = way_of(m);
     score::scores::signed(

@@ -60,7 +60,7 @@ pub fn dirty_bytes(room: &[u8]) -> usize {
 }
 
 // How many words hold a value.
-pub fn equal_longs(room: &[u64], value: u64) -> usize
+fn equal_longs(room: &[u64], value: u64) -> usize
     ensures { λ r. ⌜ r ≤ length (now (room .entry)) ⌝ }
 {
     let mut n = 0;
@@ -92,22 +92,5 @@ pub fn sheet(words: &[u64], rubbish: u64) {
         figure(k, words[k], rubbish);
         k += 1;
     }
-    line_end();
-}
-
-// Whether two rooms hold the same words.
-pub fn same(label: &[u8], a: &[u64], b: &[u64]) {
-    let mut k = 0;
-    text(label);
-    while k < a.len() {
-        if b.len() <= k {
-            break;
-        }
-        if a[k] != b[k] {
-            break;
-        }
-        k += 1;
-    }
-    number(k);
     line_end();
 }

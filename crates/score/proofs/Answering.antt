@@ -5,36 +5,24 @@ use Prim.Native.Nat.{ℕ, _+_, _<_, _≤_}
 use native.Mathlib.Omega.{arith}
 use borrow.Author.Tests.{le-leb, lt-leb}
 use lib.ListN.{length}
-use Rattle.base.specs.Words.{listed}
 use Rattle.base.specs.Answer.{Answer, given, refused}
 use Rattle.board.specs.Verdict.{Verdict, fine, after}
-use Rattle.board.specs.Record.{columnAt, shown, examined}
+use Rattle.board.specs.Record.{shown, examined}
 use Rattle.board.specs.Refusal.{numberOf}
 use Rattle.board.specs.Inner.{Sized}
 use Rattle.board.specs.declared.Board.{Board}
 use Rattle.board.specs.declared.Refusal.{Refusal}
 use Rattle.board.proofs.Soundness.{sound}
-use Rattle.questions.specs.Questions.{homeCount, emptyColumns}
 use Rattle.questions.specs.declared.CountAnswer.the-variants.{Count, Refused}
-use Rattle.score.specs.Features.{immediateOn, blockedOn, imbalanceOf, cellsUsed, longestRun, featuresOf, Bounded}
+use Rattle.features.specs.Features.{featuresOf, Bounded}
 use Rattle.score.specs.Token.{tokenOf}
 use Rattle.base.specs.Put.{Puts}
 use Rattle.score.specs.Asked.{featuresAsked, featuresTold, tokenAsked, roomAfter, Writes}
-use Rattle.score.specs.declared.Features.{Features}
+use Rattle.features.specs.declared.Features.{Features}
 use Rattle.score.specs.declared.FeaturesAnswer.{FeaturesAnswer}
 use Rattle.score.specs.declared.FeaturesAnswer.the-variants as features
-use Rattle.score.proofs.Bounds.{bounded}
+use Rattle.features.proofs.Bounds.{bounded}
 use Rattle.base.proofs.Putting.{puts-same, puts-over}
-
--- the features one by one
-pub features-are : (b : Board) {home immediate blocked imbalance used empty longest : ℕ}
-    → home ≡ homeCount (b .foundation) → immediate ≡ immediateOn (shown b)
-    → blocked ≡ blockedOn (listed 8 (columnAt (b .counts) (b .tableau))) → imbalance ≡ imbalanceOf (b .foundation)
-    → used ≡ cellsUsed (b .cells) → empty ≡ emptyColumns (listed 8 (columnAt (b .counts) (b .tableau)))
-    → longest ≡ longestRun (listed 8 (columnAt (b .counts) (b .tableau)))
-    → record { home = home; immediate = immediate; blocked = blocked; imbalance = imbalance; used = used; empty = empty; longest = longest } ≡ featuresOf (shown b)
-unfolding featuresOf shown
-features-are b p q r s t u v = cc
 
 -- ---- an answer after a verdict
 

@@ -7,9 +7,9 @@ use native.Mathlib.Decide.{decLt}
 use borrow.Author.Tests.{lt-ltb, le-ltb}
 use lib.ListN.{length, length-append}
 use Rattle.base.specs.Words.{concat}
-use Rattle.score.specs.Features.{Bounded}
+use Rattle.features.specs.Features.{Bounded}
 use Rattle.score.specs.Token.{digitsIn, decimal, tokenOf}
-use Rattle.score.specs.declared.Features.{Features}
+use Rattle.features.specs.declared.Features.{Features}
 
 digits-one : (places n : ℕ) → n < 10 → digitsIn (suc places) n ≡ (48 + n) ∷ []
 unfolding digitsIn

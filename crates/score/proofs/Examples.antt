@@ -7,7 +7,7 @@ use Rattle.board.specs.Table.{Table, held}
 use Rattle.questions.specs.Questions.{homeCount, emptyColumns}
 use Rattle.rules.specs.Fit.{homeTakes}
 use Rattle.runs.specs.Run.{isRun, runLength}
-use Rattle.score.specs.Features.{greatest, least, lastGoesHome, immediateOn, blockedIn, blockedOn, imbalanceOf, cellsUsed, longestRun, featuresOf}
+use Rattle.features.specs.Features.{greatest, least, lastGoesHome, immediateOn, blockedIn, blockedOn, imbalanceOf, cellsUsed, longestRun, featuresOf}
 use Rattle.score.specs.Scores.{heuristic, progress}
 use Rattle.score.specs.Token.{digitsIn, decimal, tokenOf}
 

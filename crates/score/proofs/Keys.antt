@@ -8,9 +8,9 @@ use lib.Dec.{leb}
 use lib.IntN.{pos, negsuc, subℕ}
 use lib.Signed.{leZ}
 use Rattle.base.proofs.Words.{same-test}
-use Rattle.score.specs.Features.{Bounded}
+use Rattle.features.specs.Features.{Bounded}
 use Rattle.score.specs.Scores.{heuristicAdds, heuristicTakes, heuristic, heuristicBias, heuristicKey, progressAdds, progressTakes, progress, progressBias, progressKey}
-use Rattle.score.specs.declared.Features.{Features}
+use Rattle.features.specs.declared.Features.{Features}
 
 -- ---- differences of natural numbers
 

@@ -9,9 +9,9 @@ use lib.IntN.{ℤ, pos, negsuc, subℕ, _-ℤ_}
 use mir.Syntax.{w64}
 use mir.Val.{SFits, toZ, ofZ, hbits}
 use mir.Facts.{toZ-pos, toZ-ofZ}
-use Rattle.score.specs.Features.{Bounded}
+use Rattle.features.specs.Features.{Bounded}
 use Rattle.score.specs.Scores.{heuristicAdds, heuristicTakes, heuristic, progressAdds, progressTakes, progress}
-use Rattle.score.specs.declared.Features.{Features}
+use Rattle.features.specs.declared.Features.{Features}
 use Rattle.score.proofs.Keys.{sub-below, sub-above, heuristic-adds-most, heuristic-takes-most, progress-adds-most, progress-takes-most}
 
 small : (n : ℕ) → n ≤ 1000000 → n < 2 ^ hbits w64

@@ -11,7 +11,7 @@ use Rattle.questions.specs.declared.CountAnswer.{CountAnswer}
 use Rattle.questions.proofs.Unique.{count-once}
 use Rattle.base.specs.Put.{Puts}
 use Rattle.score.specs.Asked.{featuresTold, scoreTold, Writes}
-use Rattle.score.specs.declared.Features.{Features}
+use Rattle.features.specs.declared.Features.{Features}
 use Rattle.score.specs.declared.FeaturesAnswer.{FeaturesAnswer}
 use Rattle.score.specs.declared.FeaturesAnswer.the-variants as features
 use Rattle.score.specs.declared.ScoreAnswer.{ScoreAnswer}

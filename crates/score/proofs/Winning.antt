@@ -18,10 +18,10 @@ use Rattle.board.proofs.Counting.{at-most-52}
 use Rattle.board.proofs.Fitting.{cards-on}
 use Rattle.questions.specs.Questions.{homeCount, emptyColumns, wonOn}
 use Rattle.runs.specs.Run.{runLength}
-use Rattle.score.specs.Features.{featuresOf, greatest, lastGoesHome, immediateOn, blockedIn, blockedOn, cellsUsed, longestRun}
+use Rattle.features.specs.Features.{featuresOf, greatest, lastGoesHome, immediateOn, blockedIn, blockedOn, cellsUsed, longestRun}
 use Rattle.score.specs.Scores.{progressBias, progressKey}
 use Rattle.score.specs.Weights.{PROGRESS_FOUNDATION_WEIGHT, PROGRESS_EMPTY_TABLEAU_BONUS}
-use Rattle.score.proofs.Bounds.{fair-bounded}
+use Rattle.features.proofs.Bounds.{fair-bounded}
 
 -- ---- all 52 cards home
 

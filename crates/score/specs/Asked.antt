@@ -12,10 +12,10 @@ use Rattle.board.specs.Refusal.{numberOf}
 use Rattle.board.specs.declared.Board.{Board}
 use Rattle.questions.specs.Told.{countTold}
 use Rattle.questions.specs.declared.CountAnswer.{CountAnswer}
-use Rattle.score.specs.Features.{featuresOf}
+use Rattle.features.specs.Features.{featuresOf}
 use Rattle.score.specs.Scores.{heuristic, progress}
 use Rattle.score.specs.Token.{tokenOf}
-use Rattle.score.specs.declared.Features.{Features}
+use Rattle.features.specs.declared.Features.{Features}
 use Rattle.score.specs.declared.FeaturesAnswer.{FeaturesAnswer}
 use Rattle.score.specs.declared.FeaturesAnswer.the-variants as features
 use Rattle.score.specs.declared.ScoreAnswer.{ScoreAnswer}

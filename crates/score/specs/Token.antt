@@ -4,7 +4,7 @@ use Prim.Native.Nat.{ℕ, zero, suc, _+_, _/_, _%_}
 use mathlib.Core.Bool.{cond}
 use lib.Dec.{ltb}
 use Rattle.base.specs.Words.{concat}
-use Rattle.score.specs.declared.Features.{Features}
+use Rattle.features.specs.declared.Features.{Features}
 
 -- the decimal digits of a number of at most so many digits, as bytes of text
 unfoldable pub digitsIn : ℕ → ℕ → List ℕ

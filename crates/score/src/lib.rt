@@ -1,26 +1,16 @@
-// Features of a board, the two scores made of them, and the progress token (after freecell/solver.rs, changed: NOTICE).
+// Features of a board told, the two scores made of them, and the progress token (after freecell/solver.rs, changed: NOTICE).
 ghost use mathlib.Core.Path.{_≡_};
 ghost use Rattle.score.specs.Asked.{featuresAsked, featuresTold, heuristicAsked, progressAsked, scoreTold, Writes};
 use board::Board;
 use board::Examined;
 use board::Refusal;
 use board::verdict::inspect;
+use features::Features;
 use questions::CountAnswer;
 
-pub mod measure;
 pub mod scores;
 pub mod token;
 pub mod weights;
-
-pub struct Features {
-    pub home: usize,
-    pub immediate: usize,
-    pub blocked: usize,
-    pub imbalance: usize,
-    pub used: usize,
-    pub empty: usize,
-    pub longest: usize,
-}
 
 pub enum FeaturesAnswer {
     Are(Features),
@@ -39,7 +29,7 @@ pub fn features_of(b: Board) -> FeaturesAnswer
     if let Examined::Refused(why) = inspect(&b.cells, &b.foundation, &b.counts, &b.tableau) {
         return FeaturesAnswer::Refused(why);
     }
-    let f = measure::compute_features(&b.cells, &b.foundation, &b.counts, &b.tableau);
+    let f = features::compute_features(&b.cells, &b.foundation, &b.counts, &b.tableau);
     FeaturesAnswer::Are(f)
 }
 

@@ -2,10 +2,10 @@
 ghost use mathlib.Core.Path.{_≡_};
 ghost use Prim.Native.Nat.{_≤_};
 ghost use lib.IntN.{subℕ};
-ghost use Rattle.score.specs.Features.{Bounded};
+ghost use Rattle.features.specs.Features.{Bounded};
 ghost use Rattle.score.specs.Scores.{heuristicAdds, heuristicTakes, heuristic, heuristicKey, progressAdds, progressTakes, progress, progressKey};
-use crate::Features;
 use crate::weights;
+use features::Features;
 
 // One number less another, which may be the greater.
 pub fn signed(adds: usize, takes: usize) -> i64

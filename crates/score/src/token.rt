@@ -3,11 +3,11 @@ ghost use mathlib.Core.Path.{_≡_};
 ghost use mathlib.Core.List.{_++_};
 ghost use Prim.Native.Nat.{_+_, _<_, _≤_};
 ghost use lib.ListN.{length};
-ghost use Rattle.score.specs.Features.{Bounded};
+ghost use Rattle.features.specs.Features.{Bounded};
 ghost use Rattle.score.specs.Token.{decimal, tokenOf};
 ghost use Rattle.base.specs.Put.{Puts};
-use crate::Features;
 use base::put::put_bytes;
+use features::Features;
 
 // A decimal digit.
 fn digit(n: usize) -> u8

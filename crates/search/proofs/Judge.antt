@@ -17,9 +17,9 @@ use Rattle.questions.specs.Questions.{wonOn}
 use Rattle.moves.specs.declared.Move.{Move}
 use Rattle.replay.specs.Played.{afterMoves, Legal}
 use Rattle.replay.proofs.Legal.{legal-fair, legal-cards, line-legal}
-use Rattle.score.specs.Features.{Bounded, featuresOf}
+use Rattle.features.specs.Features.{Bounded, featuresOf}
 use Rattle.score.specs.Scores.{progressKey}
-use Rattle.score.proofs.Bounds.{fair-bounded}
+use Rattle.features.proofs.Bounds.{fair-bounded}
 use Rattle.score.proofs.Keys.{progress-order}
 use Rattle.search.specs.Solve.{some, none, State, Answer, limit, start, run}
 use Rattle.search.specs.Freecell.{freecell, judge}

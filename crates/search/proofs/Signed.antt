@@ -10,10 +10,10 @@ use lib.IntN.{ℤ, pos, negsuc, subℕ, _+ℤ_}
 use lib.Signed.{leZ, ltZ}
 use Rattle.base.proofs.Words.{first, second, both, same-test}
 use Rattle.board.specs.Fair.{Fair}
-use Rattle.score.specs.Features.{Bounded, featuresOf}
+use Rattle.features.specs.Features.{Bounded, featuresOf}
 use Rattle.score.specs.Scores.{heuristic, heuristicBias, heuristicKey, progressKey}
-use Rattle.score.specs.declared.Features.{Features}
-use Rattle.score.proofs.Bounds.{fair-bounded}
+use Rattle.features.specs.declared.Features.{Features}
+use Rattle.features.proofs.Bounds.{fair-bounded}
 use Rattle.score.proofs.Keys.{sub-below, sub-above, raised, compared, heuristic-key, heuristic-order, progress-order}
 use Rattle.search.specs.Solve.{Node, cost, before, better}
 use Rattle.search.specs.Freecell.{freecell}

@@ -6,7 +6,7 @@ use Rattle.board.specs.Table.{Table}
 use Rattle.questions.specs.Questions.{wonOn}
 use Rattle.moves.specs.declared.Move.{Move}
 use Rattle.signature.specs.Signed.{signatureOf}
-use Rattle.score.specs.Features.{featuresOf}
+use Rattle.features.specs.Features.{featuresOf}
 use Rattle.score.specs.Scores.{heuristicKey, progressKey}
 use Rattle.candidates.specs.Candidates.{candidates}
 use Rattle.candidates.specs.Children.{childMoves, childTable}

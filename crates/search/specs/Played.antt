@@ -15,7 +15,7 @@ use Rattle.questions.specs.Questions.{wonOn}
 use Rattle.moves.specs.declared.Move.{Move}
 use Rattle.replay.specs.Played.{afterMoves, Legal, recordsOf}
 use Rattle.replay.specs.Line.{lineFrom}
-use Rattle.score.specs.Features.{featuresOf}
+use Rattle.features.specs.Features.{featuresOf}
 use Rattle.score.specs.Scores.{progress}
 
 -- the last board of a list is won

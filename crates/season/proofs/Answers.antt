@@ -25,10 +25,10 @@ use Rattle.moves.specs.declared.Move.{Move}
 use Rattle.search.specs.Solve as solve
 use Rattle.search.specs.Freecell.{freecell, judge}
 use Rattle.search.proofs.Judge.{T1, T4-pops}
-use Rattle.solver.specs.Searched.{saidNumber, movesOf}
+use Rattle.finish.specs.Said.{saidNumber, movesOf}
 use Rattle.solver.specs.Told.{IsAnswer}
-use Rattle.solver.specs.Inner.{Gives}
-use Rattle.solver.specs.declared.Judged.{Judged}
+use Rattle.finish.specs.Inner.{Gives}
+use Rattle.finish.specs.declared.Judged.{Judged}
 use Rattle.solver.proofs.Calls.{judge-answer}
 use Rattle.sheets.specs.Figures.{answersCounted}
 use Rattle.sheets.specs.Over.{Settings, Result}

@@ -13,7 +13,8 @@ use Rattle.intake.specs.Number.{isNumber}
 use Rattle.search.specs.Solve as solve
 use Rattle.search.specs.Freecell.{freecell, judge}
 use Rattle.solver.specs.Capacity.{capacityOf}
-use Rattle.solver.specs.Searched.{mostPops, movesOf}
+use Rattle.finish.specs.Said.{movesOf}
+use Rattle.solver.specs.Searched.{mostPops}
 use Rattle.sheets.specs.Figures.{sheetRoom}
 use Rattle.sheets.specs.Over.{Settings, Result, sheetOver, between}
 

@@ -50,10 +50,10 @@ fn enter_deal(
         &mut list,
     );
     let said = j.said;
-    let answer = solver::number(said);
+    let answer = finish::number(said);
     let pops = j.pops;
     let moves = j.moves;
-    sheets::enter::note(sheet, n, answer, pops, moves);
+    entries::note(sheet, n, answer, pops, moves);
 }
 
 // Deal after deal.
@@ -75,7 +75,7 @@ fn judge_deals(
 {
     let pops = budget as u64;
     let capacity = room.capacity as u64;
-    sheets::enter::start(sheet, pops, capacity, partial);
+    entries::start(sheet, pops, capacity, partial);
     let mut done = first - 1;
     while done < last {
         let n = done + 1;

@@ -17,3 +17,4 @@ pub mod Answering
 pub mod Entering
 pub mod Unique
 pub mod Running
+pub mod Examples

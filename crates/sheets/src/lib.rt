@@ -1,9 +1,6 @@
-// The season's figures: sheets of words over deal numbers. A sheet is started, has deals entered one by one, and is added to
-// another. Knows no cards.
-pub mod enter;
-mod exam;
-mod mark;
-pub mod total;
+// The season's figures: sheets of words over deal numbers, and their marks. Deals are entered by `entries`, sheets examined by `audit`
+// and added by `totals`. Knows no cards.
+pub mod mark;
 
 // The words of a sheet, and where its figures stand (specs/Figures.antt).
 pub const SHEET: usize = 716;

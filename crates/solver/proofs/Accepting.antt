@@ -24,9 +24,10 @@ use Rattle.search.specs.Freecell.{judge}
 use Rattle.memory.specs.declared.Room.{Room}
 use Rattle.solver.specs.Capacity.{capacityOf, entriesOf}
 use Rattle.solver.specs.Searched.{outcome, accepted, searchedBy, answeredWith, searched}
-use Rattle.solver.specs.declared.Said.the-variants.{Refused}
-use Rattle.solver.specs.declared.Judged.{Judged}
-use Rattle.solver.specs.Inner.{Accepts, Roomy, Gives}
+use Rattle.finish.specs.declared.Said.the-variants.{Refused}
+use Rattle.finish.specs.declared.Judged.{Judged}
+use Rattle.finish.specs.Inner.{Gives}
+use Rattle.solver.specs.Inner.{Accepts, Roomy}
 use Rattle.memory.specs.Memory.{lent}
 
 -- ---- the order of the refusals

@@ -29,8 +29,9 @@ use Rattle.search.specs.Claims.{isSome, bringsList, isBestAtLimit, isBest, isLi
 use Rattle.search.specs.Played.{endsWon, PlayedOut}
 use Rattle.search.proofs.Judge as proved
 use Rattle.memory.specs.Memory.{Memory, lent}
-use Rattle.solver.specs.Searched.{Outcome, outcome, movesOf, accepted, searchedBy, answeredWith, searched}
-use Rattle.solver.specs.Inner.{Gives}
+use Rattle.finish.specs.Said.{movesOf}
+use Rattle.solver.specs.Searched.{Outcome, outcome, accepted, searchedBy, answeredWith, searched}
+use Rattle.finish.specs.Inner.{Gives}
 use Rattle.solver.specs.Told.{Call, IsAnswer, number, capacity, verdict, Accepted, handed, HandsOver, NoList, Cleared, Untouched}
 
 -- ---- refusals have numbers from 12 to 22

@@ -19,10 +19,12 @@ use Rattle.memory.specs.declared.Counts.{Counts}
 use Rattle.memory.specs.declared.Ended.{Ended}
 use Rattle.memory.specs.Memory.{Memory, lent}
 use Rattle.memory.specs.Steps.{Blank}
-use Rattle.solver.specs.declared.Said.the-variants.{Won}
-use Rattle.solver.specs.declared.Judged.{Judged}
-use Rattle.solver.specs.Inner.{Roomy, Seeds, Goes, Gives, answerBy}
-use Rattle.solver.proofs.Handing.{answer-is}
+use Rattle.finish.specs.declared.Said.the-variants.{Won}
+use Rattle.finish.specs.declared.Judged.{Judged}
+use Rattle.finish.specs.Inner.{Gives, answerBy}
+use Rattle.turns.specs.Inner.{Seeds, Goes}
+use Rattle.solver.specs.Inner.{Roomy}
+use Rattle.finish.proofs.Handing.{answer-is}
 
 -- with the cost bytes cleared
 pub roomy-blank : {r : Room} {nodes heap keys costs zeros : List ℕ} → Roomy r (lent nodes heap keys costs) → zeros ≡ blank costs

@@ -22,7 +22,8 @@ use Rattle.search.specs.Claims.{isSome, bringsList, isBest}
 use Rattle.search.specs.Claims as search
 use Rattle.search.specs.Played.{finalScore}
 use Rattle.search.proofs.Judge as proved
-use Rattle.solver.specs.Searched.{movesOf, accepted}
+use Rattle.finish.specs.Said.{movesOf}
+use Rattle.solver.specs.Searched.{accepted}
 use Rattle.solver.specs.Told.{Call, number, capacity, verdict, Accepted, HandsOver, SameList, SameAnswer, SameSettings, NoLarger, BorneBy, Becomes, wonThen, still, noRoomThen, exhaustedThen}
 use Rattle.solver.proofs.Accepting.{all-fine}
 use Rattle.solver.proofs.Calls.{won-or-exhausted, best-progress, brings-answer, asks, sought, gives, turned, answered-accepted, sound-here, handed-is, list-is, some-list}

@@ -9,10 +9,11 @@ use Rattle.board.specs.declared.Board.{Board}
 use Rattle.board.specs.declared.Refusal.{Refusal}
 use Rattle.board.proofs.Unique.{whyOf, why-law, never-said}
 use Rattle.memory.specs.Memory.{Memory, lent}
-use Rattle.solver.specs.Searched.{Outcome, outcome, saidNumber, searched}
-use Rattle.solver.specs.declared.Said.{Said}
-use Rattle.solver.specs.declared.Said.the-variants.{Won, BestAtLimit, BestExhausted, Limit, Exhausted, BestIsWon, OutOfNodes, Refused}
-use Rattle.solver.specs.declared.Judged.{Judged}
+use Rattle.finish.specs.Said.{saidNumber}
+use Rattle.solver.specs.Searched.{Outcome, outcome, searched}
+use Rattle.finish.specs.declared.Said.{Said}
+use Rattle.finish.specs.declared.Said.the-variants.{Won, BestAtLimit, BestExhausted, Limit, Exhausted, BestIsWon, OutOfNodes, Refused}
+use Rattle.finish.specs.declared.Judged.{Judged}
 use Rattle.solver.specs.Told.{Call}
 
 -- what is said with a number

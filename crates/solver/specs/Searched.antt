@@ -1,34 +1,20 @@
 -- The search as it is asked for: 12 to 15, 20, 21, 22, or its answer with its list; the scratch is left all zero.
 use mathlib.Core.Bool.{Bool}
-use mathlib.Core.List.{List, []}
+use mathlib.Core.List.{List}
 use Prim.Native.Nat.{ℕ}
 use lib.Dec.{leb}
 use lib.ListN.{length}
 use Rattle.base.specs.Answer.{given, refused, unless}
 use Rattle.board.specs.Verdict.{Verdict, fine, after}
 use Rattle.board.specs.Record.{examined, shown}
-use Rattle.board.specs.Refusal.{numberOf}
 use Rattle.board.specs.declared.Board.{Board}
-use Rattle.moves.specs.declared.Move.{Move}
 use Rattle.moves.specs.Written.{written, listRoom}
 use Rattle.base.specs.Blank.{blank}
 use Rattle.search.specs.Freecell.{freecell, judge}
-use Rattle.search.specs.Solve.{Perhaps, none, some, Answer}
+use Rattle.search.specs.Solve.{Answer}
+use Rattle.finish.specs.Said.{saidNumber, movesOf}
+use Rattle.finish.specs.declared.Judged.{Judged}
 use Rattle.solver.specs.Capacity.{capacityOf}
-use Rattle.solver.specs.declared.Said.{Said}
-use Rattle.solver.specs.declared.Said.the-variants.{Won, BestAtLimit, BestExhausted, Limit, Exhausted, BestIsWon, OutOfNodes, Refused}
-use Rattle.solver.specs.declared.Judged.{Judged}
-
--- SCOPE.md's number of each case
-abbrev pub saidNumber : Said → ℕ
-saidNumber Won = 0
-saidNumber BestAtLimit = 1
-saidNumber BestExhausted = 2
-saidNumber Limit = 3
-saidNumber Exhausted = 4
-saidNumber BestIsWon = 5
-saidNumber OutOfNodes = 23
-saidNumber (Refused why) = numberOf why
 
 -- all that a search hands back and leaves: its number, its pops, the moves of its list, and every lent byte
 pub record Outcome : Type 0 where
@@ -44,11 +30,6 @@ pub record Outcome : Type 0 where
 abbrev pub outcome : Judged → List ℕ → List ℕ → List ℕ → List ℕ → List ℕ → Outcome
 outcome r nodes heap keys costs list =
     record { number = saidNumber (r .said); pops = r .pops; moves = r .moves; nodes = nodes; heap = heap; keys = keys; costs = costs; list = list }
-
--- the moves of a list, if there is one
-abbrev pub movesOf : Perhaps (List Move) → List Move
-movesOf none = []
-movesOf (some l) = l
 
 -- the largest budget
 abbrev pub mostPops : ℕ

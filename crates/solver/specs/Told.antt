@@ -16,9 +16,10 @@ use Rattle.search.specs.Freecell.{freecell}
 use Rattle.search.specs.Claims.{Borne, Clash}
 use Rattle.search.specs.Played.{PlayedOut}
 use Rattle.memory.specs.Memory.{Memory}
+use Rattle.finish.specs.Said.{saidNumber}
+use Rattle.finish.specs.declared.Judged.{Judged}
 use Rattle.solver.specs.Capacity.{capacityOf}
-use Rattle.solver.specs.Searched.{saidNumber, outcome, accepted, searched}
-use Rattle.solver.specs.declared.Judged.{Judged}
+use Rattle.solver.specs.Searched.{outcome, accepted, searched}
 
 -- one call on a board: its settings, what was lent, what came back, what is in the lent room then; `holds` is the promise of `solve`
 pub record Call (b : Board) : Type 0 where

@@ -1,63 +1,28 @@
-// The search in lent memory (after freecell/solver.rs, `solve_with_stats`, changed: NOTICE).
+// The search in lent memory, from the refusals to the answer (after freecell/solver.rs, `solve_with_stats`, changed: NOTICE).
 ghost use mathlib.Core.Path.{_≡_};
 ghost use Prim.Native.Nat.{min, _≤_};
 ghost use lib.ListN.{length};
 ghost use Rattle.board.specs.Record.{shown};
 ghost use Rattle.board.specs.Inner.{Sound};
-ghost use Rattle.solver.specs.declared.Said.the-variants.{Refused};
+ghost use Rattle.finish.specs.declared.Said.the-variants.{Refused};
+ghost use Rattle.finish.specs.Inner.{Gives};
 ghost use Rattle.search.specs.Freecell.{judge};
 ghost use Rattle.solver.specs.Capacity.{capacityOf, entriesOf};
-ghost use Rattle.solver.specs.Searched.{saidNumber, outcome, searched, mostPops};
-ghost use Rattle.solver.specs.Inner.{Accepts, Roomy, Gives};
+ghost use Rattle.solver.specs.Searched.{outcome, searched, mostPops};
+ghost use Rattle.solver.specs.Inner.{Accepts, Roomy};
 ghost use Rattle.memory.specs.Memory.{lent};
 ghost use Rattle.moves.specs.Written.{listRoom};
 use board::Board;
 use board::Examined;
 use board::Refusal;
 use board::verdict::inspect;
+use finish::Judged;
+use finish::Said;
 use memory::Room;
 use moves::LIST_ROOM;
 
-mod finish;
-mod run;
-
 // The largest budget.
 pub const MOST_POPS: usize = 1_000_000;
-
-// How a search was answered; specs/Searched.antt has SCOPE.md's number for each.
-pub enum Said {
-    Won,
-    BestAtLimit,
-    BestExhausted,
-    Limit,
-    Exhausted,
-    BestIsWon,
-    OutOfNodes,
-    Refused(Refusal),
-}
-
-// The answer, the pops, and how many moves the list has.
-pub struct Judged {
-    pub said: Said,
-    pub pops: usize,
-    pub moves: usize,
-}
-
-// SCOPE.md's number of an answer.
-pub fn number(said: Said) -> u8
-    ensures { λ r. ⌜ r ≡ saidNumber said ⌝ }
-{
-    match said {
-        Said::Won => 0,
-        Said::BestAtLimit => 1,
-        Said::BestExhausted => 2,
-        Said::Limit => 3,
-        Said::Exhausted => 4,
-        Said::BestIsWon => 5,
-        Said::OutOfNodes => 23,
-        Said::Refused(why) => board::number(why),
-    }
-}
 
 fn lesser(a: usize, b: usize) -> usize
     ensures { λ r. ⌜ r ≡ min a b ⌝ }
@@ -124,8 +89,8 @@ pub fn judge_at(
             moves: 0,
         };
     }
-    let c = run::seed(b, room, nodes, heap, keys, costs);
-    let e = run::go(b, budget, room, c, nodes, heap, keys, costs);
+    let c = turns::seed(b, room, nodes, heap, keys, costs);
+    let e = turns::go(b, budget, room, c, nodes, heap, keys, costs);
     finish::finish(b, partial, e, nodes, list)
 }
 

@@ -20,7 +20,7 @@ fn judged(
     let said = r.said;
     let pops = r.pops;
     let moves = r.moves;
-    saying::number(base::wide(solver::number(said)));
+    saying::number(base::wide(finish::number(said)));
     saying::number(pops);
     saying::number(moves);
     saying::number(saying::dirty_words(nodes));

@@ -1,5 +1,5 @@
-// Sheets added that come from outside: each clause of 47 by a changed word, 45, 44, sums, sheets of other lengths. Each line: a label,
-// the number (0: added), and the words of the first sheet afterwards that are not zero, each with its place.
+// Sheets added that come from outside: each clause of 47 by a changed word, 45, 44, sums, wins of two lengths, sheets of other lengths.
+// Each line: a label, the number (0: added), and the words of the first sheet afterwards that are not zero, each with its place.
 use board::Examined;
 
 // A word of a sheet, if there is one at that place.
@@ -51,7 +51,7 @@ fn number_of(said: Examined) -> u8 {
 }
 
 fn added(label: &[u8], into: &mut [u64], other: &[u64]) {
-    let said = sheets::total::add(into, other);
+    let said = totals::add(into, other);
     saying::text(label);
     saying::byte(number_of(said));
     saying::sheet(into, 0);
@@ -160,6 +160,62 @@ fn ties() {
     added(b"tie_turned", &mut b, &c);
 }
 
+fn two_figures(sheet: &mut [u64]) {
+    won_figures(sheet);
+    put(sheet, 3, 2);
+    put(sheet, 10, 20);
+    put(sheet, 216, 320);
+}
+
+fn two_marks(sheet: &mut [u64], shortest: u64, longest: u64) {
+    put(sheet, 11, shortest);
+    put(sheet, 12, 7);
+    put(sheet, 13, longest);
+    put(sheet, 14, 9);
+    put(sheet, 95, 1);
+    put(sheet, 110, 1);
+}
+
+// Deal 7 was won with 80 moves, deal 9 with 95, after 20 pops in all; the lengths that are marked are told.
+fn two_wins(sheet: &mut [u64], shortest: u64, longest: u64) {
+    two_figures(sheet);
+    two_marks(sheet, shortest, longest);
+}
+
+// Added from either side.
+fn marked(label: &[u8], turned: &[u8], shortest: u64, longest: u64) {
+    let mut a = [0u64; 716];
+    let mut b = [0u64; 716];
+    let mut c = [0u64; 716];
+    two_wins(&mut a, shortest, longest);
+    limit(&mut b);
+    added(label, &mut a, &b);
+    two_wins(&mut c, shortest, longest);
+    added(turned, &mut b, &c);
+}
+
+// Wins of two lengths: the shortest is the shorter, the longest the longer of them, and a mark of the other one's length is wrong.
+fn two_lengths() {
+    marked(b"wins_80_95", b"other_wins_80_95", 80, 95);
+    marked(b"wins_shortest_95", b"other_wins_shortest_95", 95, 95);
+    marked(b"wins_longest_80", b"other_wins_longest_80", 80, 80);
+    marked(b"wins_exchanged", b"other_wins_exchanged", 95, 80);
+    marked(b"wins_shortest_79", b"other_wins_shortest_79", 79, 95);
+    marked(b"wins_longest_96", b"other_wins_longest_96", 80, 96);
+}
+
+// A third win, deal 3 with 95 moves: the shortest stays, the longest has the lower deal, whichever is added to which.
+fn third_win() {
+    let mut a = [0u64; 716];
+    let mut b = [0u64; 716];
+    let mut c = [0u64; 716];
+    two_wins(&mut a, 80, 95);
+    won(&mut b);
+    added(b"third_win", &mut a, &b);
+    two_wins(&mut c, 80, 95);
+    added(b"third_win_turned", &mut b, &c);
+}
+
 fn lengths() {
     let mut a = [0u64; 715];
     let mut b = [0u64; 717];
@@ -181,5 +237,7 @@ fn main() {
     settings_and_numbers();
     with_itself();
     ties();
+    two_lengths();
+    third_win();
     lengths();
 }

@@ -4,9 +4,9 @@ use Rattle.base.specs.Answer.{given}
 use Rattle.board.specs.Verdict.{after}
 use Rattle.board.specs.Record.{examined, shown}
 use Rattle.candidates.specs.Candidates.{candidates}
-use Rattle.corbelnib.specs.Lists.{listLeft, candidatesLeft}
-use Rattle.corbelnib.proofs.Crossing.{no-board, a-board}
-use Rattle.corbelnib.proofs.Listing.{list-left}
+use Rattle.crossing.specs.Lists.{listLeft, candidatesLeft}
+use Rattle.crossing.proofs.Crossing.{no-board, a-board}
+use Rattle.crossing.proofs.Listing.{list-left}
 use borrow.Author.Needs.{needs}
 use Rattle.corbelnib.proofs.corbelnib_candidates.Statement.{statement}
 use Rattle.corbelnib.proofs.corbelnib_candidates.Tie as tie

@@ -6,10 +6,10 @@ use Rattle.base.specs.Answer.{Answer, given}
 use Rattle.board.specs.Verdict.{after}
 use Rattle.board.specs.Record.{examined}
 use Rattle.replay.specs.Line.{Ending}
-use Rattle.corbelnib.specs.Crossing.{left}
-use Rattle.corbelnib.specs.Boards.{lineLeft, chained, chainLeft}
-use Rattle.corbelnib.proofs.Crossing.{no-board, a-board}
-use Rattle.corbelnib.proofs.Handing.{chain-no, chain-yes}
+use Rattle.crossing.specs.Crossing.{left}
+use Rattle.crossing.specs.Boards.{lineLeft, chained, chainLeft}
+use Rattle.crossing.proofs.Crossing.{no-board, a-board}
+use Rattle.crossing.proofs.Handing.{chain-no, chain-yes}
 use borrow.Author.Needs.{needs}
 use Rattle.corbelnib.proofs.corbelnib_chain.Statement.{statement}
 use Rattle.corbelnib.proofs.corbelnib_chain.Tie as tie

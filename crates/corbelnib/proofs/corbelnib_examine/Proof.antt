@@ -1,8 +1,8 @@
 -- What `corbelnib_examine` leaves to be shown: another length, or the verdict.
 use mathlib.Core.Path.{ap, _∙_}
 use Rattle.board.specs.Record.{examined}
-use Rattle.corbelnib.specs.Crossing.{told}
-use Rattle.corbelnib.proofs.Crossing.{no-board, a-board}
+use Rattle.crossing.specs.Crossing.{told}
+use Rattle.crossing.proofs.Crossing.{no-board, a-board}
 use borrow.Author.Needs.{needs}
 use Rattle.corbelnib.proofs.corbelnib_examine.Statement.{statement}
 use Rattle.corbelnib.proofs.corbelnib_examine.Tie as tie

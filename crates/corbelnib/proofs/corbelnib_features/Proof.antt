@@ -3,11 +3,11 @@ use mathlib.Core.Path.{sym, ap, _∙_}
 use Prim.Native.Nat.{ℕ}
 use Rattle.base.specs.Answer.{Answer}
 use Rattle.score.specs.Asked.{featuresAsked, featuresTold}
-use Rattle.score.specs.declared.Features.{Features}
-use Rattle.corbelnib.specs.Crossing.{left}
-use Rattle.corbelnib.specs.Values.{numbersLeft, featuresLeft}
-use Rattle.corbelnib.proofs.Crossing.{no-board, a-board}
-use Rattle.corbelnib.proofs.Telling.{numbers-short, numbers-yes}
+use Rattle.features.specs.declared.Features.{Features}
+use Rattle.crossing.specs.Crossing.{left}
+use Rattle.crossing.specs.Values.{numbersLeft, featuresLeft}
+use Rattle.crossing.proofs.Crossing.{no-board, a-board}
+use Rattle.crossing.proofs.Telling.{numbers-short, numbers-yes}
 use borrow.Author.Needs.{needs}
 use Rattle.corbelnib.proofs.corbelnib_features.Statement.{statement}
 use Rattle.corbelnib.proofs.corbelnib_features.Tie as tie

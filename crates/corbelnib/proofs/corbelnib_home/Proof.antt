@@ -3,9 +3,9 @@ use mathlib.Core.Path.{ap, _∙_}
 use Prim.Native.Nat.{ℕ}
 use Rattle.base.specs.Answer.{Answer}
 use Rattle.questions.specs.Questions.{foundationAsked}
-use Rattle.corbelnib.specs.Values.{valueLeft}
-use Rattle.corbelnib.specs.Questions.{homeLeft}
-use Rattle.corbelnib.proofs.Crossing.{no-board, a-board}
+use Rattle.crossing.specs.Values.{valueLeft}
+use Rattle.crossing.specs.Questions.{homeLeft}
+use Rattle.crossing.proofs.Crossing.{no-board, a-board}
 use borrow.Author.Needs.{needs}
 use Rattle.corbelnib.proofs.corbelnib_home.Statement.{statement}
 use Rattle.corbelnib.proofs.corbelnib_home.Tie as tie

@@ -1,12 +1,13 @@
 -- What `corbelnib_judge` leaves to be shown: another length, an answer, or a refusal.
-use mathlib.Core.Path.{refl}
+use mathlib.Core.Path.{refl, ap}
+use Rattle.corbelnib.specs.Calls.{searchLeft}
 use Rattle.corbelnib.proofs.Judging.{judge-none, judge-answers, judge-refuses}
 use borrow.Author.Needs.{needs}
 use Rattle.corbelnib.proofs.corbelnib_judge.Statement.{statement}
 use Rattle.corbelnib.proofs.corbelnib_judge.Tie as tie
 
 returns : tie.Need-returns
-returns c = let p7 = c .before .before .before .before .before .before .before in judge-none (p7 .args .nodes .now) (p7 .args .heap .now) (p7 .args .keys .now) (p7 .args .costs .now) (p7 .args .list .now) (p7 .args .pops .now) (p7 .args .moves .now) (p7 .args .board .now) (p7 .args .budget) (p7 .args .partial) (c .if1 .taken)
+returns c = let p7 = c .before .before .before .before .before .before .before in ap searchLeft (judge-none (p7 .args .nodes .now) (p7 .args .heap .now) (p7 .args .keys .now) (p7 .args .costs .now) (p7 .args .list .now) (p7 .args .pops .now) (p7 .args .moves .now) (p7 .args .board .now) (p7 .args .budget) (p7 .args .partial) (c .if1 .taken))
 
 board-in-requires : tie.Need-board-in-requires
 board-in-requires c κs = search needs
@@ -36,7 +37,7 @@ same-length-5 : tie.Need-same-length-5
 same-length-5 c = search needs
 
 returns-2 : tie.Need-returns-2
-returns-2 c = let p2 = c .before .before in let p13 = p2 .before .before .before .before .before .before .before .before .before .before .before in let p19 = p13 .before .before .before .before .before .before in let p20 = p19 .before in let p27 = p20 .before .before .before .before .before .before .before in judge-answers (p27 .args .nodes .now) (p27 .args .heap .now) (p27 .args .keys .now) (p27 .args .costs .now) (p27 .args .list .now) (p27 .args .pops .now) (p27 .args .moves .now) (p27 .args .board .now) (p27 .args .budget) (p27 .args .partial) (p20 .if1 .left) (p13 .solve .result) (p19 .board-in .ensures) refl (p13 .solve .ensures) (p2 .number .ensures) (c .before .is-answer .ensures) (c .if2 .taken)
+returns-2 c = let p2 = c .before .before in let p13 = p2 .before .before .before .before .before .before .before .before .before .before .before in let p19 = p13 .before .before .before .before .before .before in let p20 = p19 .before in let p27 = p20 .before .before .before .before .before .before .before in ap searchLeft (judge-answers (p27 .args .nodes .now) (p27 .args .heap .now) (p27 .args .keys .now) (p27 .args .costs .now) (p27 .args .list .now) (p27 .args .pops .now) (p27 .args .moves .now) (p27 .args .board .now) (p27 .args .budget) (p27 .args .partial) (p20 .if1 .left) (p13 .solve .result) (p19 .board-in .ensures) refl (p13 .solve .ensures) (p2 .number .ensures) (c .before .is-answer .ensures) (c .if2 .taken))
 
 same-length-6 : tie.Need-same-length-6
 same-length-6 c = search needs
@@ -54,7 +55,7 @@ same-length-10 : tie.Need-same-length-10
 same-length-10 c = search needs
 
 returns-3 : tie.Need-returns-3
-returns-3 c = let p2 = c .before .before in let p13 = p2 .before .before .before .before .before .before .before .before .before .before .before in let p19 = p13 .before .before .before .before .before .before in let p20 = p19 .before in let p27 = p20 .before .before .before .before .before .before .before in judge-refuses (p27 .args .nodes .now) (p27 .args .heap .now) (p27 .args .keys .now) (p27 .args .costs .now) (p27 .args .list .now) (p27 .args .pops .now) (p27 .args .moves .now) (p27 .args .board .now) (p27 .args .budget) (p27 .args .partial) (p20 .if1 .left) (p13 .solve .result) (p19 .board-in .ensures) refl (p13 .solve .ensures) (p2 .number .ensures) (c .before .is-answer .ensures) (c .if2 .left)
+returns-3 c = let p2 = c .before .before in let p13 = p2 .before .before .before .before .before .before .before .before .before .before .before in let p19 = p13 .before .before .before .before .before .before in let p20 = p19 .before in let p27 = p20 .before .before .before .before .before .before .before in ap searchLeft (judge-refuses (p27 .args .nodes .now) (p27 .args .heap .now) (p27 .args .keys .now) (p27 .args .costs .now) (p27 .args .list .now) (p27 .args .pops .now) (p27 .args .moves .now) (p27 .args .board .now) (p27 .args .budget) (p27 .args .partial) (p20 .if1 .left) (p13 .solve .result) (p19 .board-in .ensures) refl (p13 .solve .ensures) (p2 .number .ensures) (c .before .is-answer .ensures) (c .if2 .left))
 
 pub corbelnib-judge-spec : {M : Type 1} → statement M
 corbelnib-judge-spec =

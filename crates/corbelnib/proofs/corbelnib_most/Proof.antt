@@ -3,9 +3,9 @@ use mathlib.Core.Path.{ap, _∙_}
 use Prim.Native.Nat.{ℕ}
 use Rattle.base.specs.Answer.{Answer}
 use Rattle.rules.specs.Asked.{mostAsked}
-use Rattle.corbelnib.specs.Values.{valueLeft}
-use Rattle.corbelnib.specs.Questions.{mostLeft}
-use Rattle.corbelnib.proofs.Crossing.{no-board, a-board}
+use Rattle.crossing.specs.Values.{valueLeft}
+use Rattle.crossing.specs.Questions.{mostLeft}
+use Rattle.crossing.proofs.Crossing.{no-board, a-board}
 use borrow.Author.Needs.{needs}
 use Rattle.corbelnib.proofs.corbelnib_most.Statement.{statement}
 use Rattle.corbelnib.proofs.corbelnib_most.Tie as tie

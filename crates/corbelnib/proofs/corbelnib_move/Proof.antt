@@ -7,10 +7,10 @@ use Rattle.board.specs.declared.Board.{Board}
 use Rattle.board.proofs.Soundness.{sound}
 use Rattle.questions.proofs.Asking.{after-no, after-yes, verdict-fine}
 use Rattle.replay.specs.Step.{stepped, moveMade}
-use Rattle.corbelnib.specs.Crossing.{left}
-use Rattle.corbelnib.specs.Boards.{boardLeft, moveLeft}
-use Rattle.corbelnib.proofs.Crossing.{no-board, a-board}
-use Rattle.corbelnib.proofs.Handing.{moved-told}
+use Rattle.crossing.specs.Crossing.{left}
+use Rattle.crossing.specs.Boards.{boardLeft, moveLeft}
+use Rattle.crossing.proofs.Crossing.{no-board, a-board}
+use Rattle.crossing.proofs.Handing.{moved-told}
 use borrow.Author.Needs.{needs}
 use Rattle.corbelnib.proofs.corbelnib_move.Statement.{statement}
 use Rattle.corbelnib.proofs.corbelnib_move.Tie as tie

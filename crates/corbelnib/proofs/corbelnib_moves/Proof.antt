@@ -8,10 +8,10 @@ use Rattle.board.specs.Record.{examined, shown}
 use Rattle.moves.specs.declared.Move.{Move}
 use Rattle.generate.specs.declared.Way.{Way}
 use Rattle.questions.proofs.Asking.{after-no, after-yes}
-use Rattle.corbelnib.specs.Crossing.{left}
-use Rattle.corbelnib.specs.Lists.{listLeft, wayAsked, wayTold, foundBy, movesLeft}
-use Rattle.corbelnib.proofs.Crossing.{no-board, a-board}
-use Rattle.corbelnib.proofs.Listing.{list-left}
+use Rattle.crossing.specs.Crossing.{left}
+use Rattle.crossing.specs.Lists.{listLeft, wayAsked, wayTold, foundBy, movesLeft}
+use Rattle.crossing.proofs.Crossing.{no-board, a-board}
+use Rattle.crossing.proofs.Listing.{list-left}
 use borrow.Author.Needs.{needs}
 use Rattle.corbelnib.proofs.corbelnib_moves.Statement.{statement}
 use Rattle.corbelnib.proofs.corbelnib_moves.Tie as tie

@@ -3,8 +3,8 @@ use mathlib.Core.Path.{ap, _∙_}
 use lib.IntN.{ℤ}
 use Rattle.base.specs.Answer.{Answer}
 use Rattle.priority.specs.Asked.{priorityAsked}
-use Rattle.corbelnib.specs.Values.{valueLeft, priorityLeft}
-use Rattle.corbelnib.proofs.Crossing.{no-board, a-board}
+use Rattle.crossing.specs.Values.{valueLeft, priorityLeft}
+use Rattle.crossing.proofs.Crossing.{no-board, a-board}
 use borrow.Author.Needs.{needs}
 use Rattle.corbelnib.proofs.corbelnib_priority.Statement.{statement}
 use Rattle.corbelnib.proofs.corbelnib_priority.Tie as tie

@@ -1,9 +1,9 @@
 -- What `corbelnib_read_line` leaves to be shown: another length, or what comes of the line.
 use mathlib.Core.Path.{_∙_}
 use lib.ListN.{length}
-use Rattle.paper.specs.Asked.{readAsked}
-use Rattle.corbelnib.specs.Papers.{readBy, lineReadLeft}
-use Rattle.corbelnib.proofs.Papering.{no-line, a-line, reads-left}
+use Rattle.reading.specs.Asked.{readAsked}
+use Rattle.crossing.specs.Papers.{readBy, lineReadLeft}
+use Rattle.crossing.proofs.Papering.{no-line, a-line, reads-left}
 use borrow.Author.Needs.{needs}
 use Rattle.corbelnib.proofs.corbelnib_read_line.Statement.{statement}
 use Rattle.corbelnib.proofs.corbelnib_read_line.Tie as tie

@@ -9,10 +9,10 @@ use Rattle.board.specs.Record.{examined}
 use Rattle.board.proofs.Soundness.{sound}
 use Rattle.questions.proofs.Asking.{after-no, after-yes, verdict-fine}
 use Rattle.replay.specs.Line.{Ending, lineFrom, recordsIn, isLine}
-use Rattle.corbelnib.specs.Crossing.{left}
-use Rattle.corbelnib.specs.Boards.{lineLeft, replayLeft}
-use Rattle.corbelnib.proofs.Crossing.{no-board, a-board}
-use Rattle.corbelnib.proofs.Handing.{ending-is, by-line}
+use Rattle.crossing.specs.Crossing.{left}
+use Rattle.crossing.specs.Boards.{lineLeft, replayLeft}
+use Rattle.crossing.proofs.Crossing.{no-board, a-board}
+use Rattle.crossing.proofs.Handing.{ending-is, by-line}
 use Rattle.replay.proofs.Replaying.{line-five}
 use borrow.Author.Needs.{needs}
 use Rattle.corbelnib.proofs.corbelnib_replay.Statement.{statement}

@@ -5,10 +5,10 @@ use mathlib.Core.List.{List}
 use Prim.Native.Nat.{ℕ}
 use Rattle.moves.specs.Written.{written}
 use Rattle.safe.specs.Asked.{firstAsked}
-use Rattle.corbelnib.specs.Crossing.{left, crossed, within}
-use Rattle.corbelnib.specs.Questions.{safeMoves, safeLeft}
-use Rattle.corbelnib.proofs.Crossing.{no-board}
-use Rattle.corbelnib.proofs.Tops.{safe-said-here, safe-short, safe-told, safe-no}
+use Rattle.crossing.specs.Crossing.{left, crossed, within}
+use Rattle.crossing.specs.Questions.{safeMoves, safeLeft}
+use Rattle.crossing.proofs.Crossing.{no-board}
+use Rattle.crossing.proofs.Tops.{safe-said-here, safe-short, safe-told, safe-no}
 use borrow.Author.Needs.{needs}
 use Rattle.corbelnib.proofs.corbelnib_safe.Statement.{statement}
 use Rattle.corbelnib.proofs.corbelnib_safe.Tie as tie

@@ -4,10 +4,10 @@ use lib.IntN.{ℤ}
 use Rattle.base.specs.Answer.{Answer}
 use Rattle.score.specs.Scores.{heuristic, progress}
 use Rattle.score.specs.Asked.{featuresAsked}
-use Rattle.corbelnib.specs.Crossing.{left, crossed}
-use Rattle.corbelnib.specs.Values.{valueLeft, scoresLeft}
-use Rattle.corbelnib.proofs.Crossing.{no-board, a-board}
-use Rattle.corbelnib.proofs.Telling.{scores-left}
+use Rattle.crossing.specs.Crossing.{left, crossed}
+use Rattle.crossing.specs.Values.{valueLeft, scoresLeft}
+use Rattle.crossing.proofs.Crossing.{no-board, a-board}
+use Rattle.crossing.proofs.Telling.{scores-left}
 use borrow.Author.Needs.{needs}
 use Rattle.corbelnib.proofs.corbelnib_scores.Statement.{statement}
 use Rattle.corbelnib.proofs.corbelnib_scores.Tie as tie

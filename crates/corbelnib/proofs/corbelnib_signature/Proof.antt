@@ -3,8 +3,8 @@ use mathlib.Core.Path.{ap, _∙_}
 use Prim.Native.Nat.{ℕ}
 use Rattle.base.specs.Answer.{Answer}
 use Rattle.signature.specs.Signed.{signatureAsked}
-use Rattle.corbelnib.specs.Values.{valueLeft, signatureLeft}
-use Rattle.corbelnib.proofs.Crossing.{no-board, a-board}
+use Rattle.crossing.specs.Values.{valueLeft, signatureLeft}
+use Rattle.crossing.proofs.Crossing.{no-board, a-board}
 use borrow.Author.Needs.{needs}
 use Rattle.corbelnib.proofs.corbelnib_signature.Statement.{statement}
 use Rattle.corbelnib.proofs.corbelnib_signature.Tie as tie

@@ -3,11 +3,11 @@ use mathlib.Core.Path.{_∙_}
 use Rattle.base.specs.Answer.{given}
 use Rattle.board.specs.Verdict.{after}
 use Rattle.board.specs.Record.{examined, shown}
-use Rattle.score.specs.Features.{featuresOf}
+use Rattle.features.specs.Features.{featuresOf}
 use Rattle.score.specs.Token.{tokenOf}
-use Rattle.corbelnib.specs.Lists.{textLeft, tokenLeft}
-use Rattle.corbelnib.proofs.Crossing.{no-board, a-board}
-use Rattle.corbelnib.proofs.Listing.{text-left}
+use Rattle.crossing.specs.Lists.{textLeft, tokenLeft}
+use Rattle.crossing.proofs.Crossing.{no-board, a-board}
+use Rattle.crossing.proofs.Listing.{text-left}
 use borrow.Author.Needs.{needs}
 use Rattle.corbelnib.proofs.corbelnib_token.Statement.{statement}
 use Rattle.corbelnib.proofs.corbelnib_token.Tie as tie

@@ -3,9 +3,9 @@ use mathlib.Core.Path.{ap, _∙_}
 use Rattle.base.specs.Answer.{Answer}
 use Rattle.questions.specs.Questions.{topAsked}
 use Rattle.questions.specs.declared.Top.{Top}
-use Rattle.corbelnib.specs.Questions.{codeLeft, topLeft}
-use Rattle.corbelnib.proofs.Crossing.{no-board, a-board}
-use Rattle.corbelnib.proofs.Tops.{tops-coded}
+use Rattle.crossing.specs.Questions.{codeLeft, topLeft}
+use Rattle.crossing.proofs.Crossing.{no-board, a-board}
+use Rattle.crossing.proofs.Tops.{tops-coded}
 use borrow.Author.Needs.{needs}
 use Rattle.corbelnib.proofs.corbelnib_top.Statement.{statement}
 use Rattle.corbelnib.proofs.corbelnib_top.Tie as tie

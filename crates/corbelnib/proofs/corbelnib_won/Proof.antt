@@ -3,8 +3,8 @@ use mathlib.Core.Path.{ap, _∙_}
 use mathlib.Core.Bool.{Bool}
 use Rattle.base.specs.Answer.{Answer}
 use Rattle.questions.specs.Questions.{wonAsked}
-use Rattle.corbelnib.specs.Questions.{yesLeft, wonLeft}
-use Rattle.corbelnib.proofs.Crossing.{no-board, a-board}
+use Rattle.crossing.specs.Questions.{yesLeft, wonLeft}
+use Rattle.crossing.proofs.Crossing.{no-board, a-board}
 use borrow.Author.Needs.{needs}
 use Rattle.corbelnib.proofs.corbelnib_won.Statement.{statement}
 use Rattle.corbelnib.proofs.corbelnib_won.Tie as tie

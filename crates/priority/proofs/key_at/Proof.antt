@@ -1,8 +1,8 @@
 -- What `key_at` leaves to be shown: both boards' features are bounded.
 use mathlib.Core.Path.{sym, subst}
 use Rattle.board.specs.Record.{shown, laid}
-use Rattle.score.specs.Features.{Bounded}
-use Rattle.score.proofs.Bounds.{bounded}
+use Rattle.features.specs.Features.{Bounded}
+use Rattle.features.proofs.Bounds.{bounded}
 use Rattle.priority.proofs.After.{key-is}
 use borrow.Author.Needs.{needs}
 use Rattle.priority.proofs.key_at.Statement.{statement}

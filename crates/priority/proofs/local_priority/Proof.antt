@@ -2,8 +2,8 @@
 use mathlib.Core.Path.{sym, _∙_, subst}
 use native.Mathlib.Omega.{arith}
 use Rattle.board.specs.Record.{shown, laid}
-use Rattle.score.specs.Features.{Bounded}
-use Rattle.score.proofs.Bounds.{bounded}
+use Rattle.features.specs.Features.{Bounded}
+use Rattle.features.proofs.Bounds.{bounded}
 use Rattle.score.proofs.Signs.{passed-on}
 use Rattle.priority.proofs.Sizes.{priority-adds-most, priority-takes-most}
 use Rattle.priority.proofs.After.{priority-is, priority-fits}

@@ -4,7 +4,7 @@ use Rattle.base.specs.Answer.{given}
 use Rattle.board.proofs.Soundness.{sound}
 use Rattle.questions.proofs.Asking.{after-no, after-yes, verdict-fine}
 use Rattle.score.specs.Asked.{featuresAsked}
-use Rattle.score.specs.declared.Features.{Features}
+use Rattle.features.specs.declared.Features.{Features}
 use borrow.Author.Needs.{needs}
 use Rattle.score.proofs.features_of.Statement.{statement}
 use Rattle.score.proofs.features_of.Tie as tie

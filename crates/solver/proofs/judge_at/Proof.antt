@@ -1,5 +1,6 @@
 -- What `judge_at` leaves to be shown: a won start, or the root, the run and the answer.
 use mathlib.Core.Path.{_∙_}
+use native.Mathlib.Omega.{arith}
 use Rattle.solver.proofs.Judging.{roomy-blank, gives-won, gives-run}
 use borrow.Author.Needs.{needs}
 use Rattle.solver.proofs.judge_at.Statement.{statement}
@@ -26,7 +27,7 @@ go-requires : tie.Need-go-requires
 go-requires c κs =
     let p12 = c .before .before .before .before .before .before .before .before .before .before .before .before in
     let p30 = p12 .before .before .before .before .before .before .before .before .before .before .before .before .before .before .before .before .before .before in
-    (p30 .pre .0, (p12 .seed .ensures .machine, (p12 .seed .ensures .pops, p30 .pre .1 .0)))
+    (p30 .pre .0, (p12 .seed .ensures .machine, (p12 .seed .ensures .pops, omega (arith, p30 .pre .1 .0))))
 
 finish-requires : tie.Need-finish-requires
 finish-requires c κs =

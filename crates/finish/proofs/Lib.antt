@@ -1,0 +1,2 @@
+-- Laws for the functions and the search above.
+pub mod Handing

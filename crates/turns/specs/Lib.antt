@@ -1,0 +1,2 @@
+-- What the search asks of its turns.
+pub mod Inner
