@@ -3,7 +3,8 @@
 #   make syntax            everything in C compiled with every warning an error, plainly and with the sanitizers; needs no library
 #   make check             the tests of the command, of the C boundary and of docs/FOR-TABLES.md (tests/README.md)
 #   make check-sanitized   the same with the address and undefined-behaviour sanitizers in the command's own code, and 100,000 damaged inputs
-#   make check-masters     true answers two by two, held to demand 3
+#   make check-rising      hands 1 to 100 at the usual settings: what judge says is what it says where it begins with them
+#   make check-masters     true answers two by two, held to demand 3; answers with one member made wrong
 #   make check-fc-solve    hands 1 to 100 beside fc-solve (Debian's package freecell-solver-bin)
 #   make install PREFIX=.. command, library, header, pkg-config file and man page (DESTDIR is put before all paths)
 # CORBELNIB_ARCHIVE, if set, is a folder with a libcorbelnib.a that is taken as it is; else tools/archive.sh proves and builds it. What was
@@ -21,6 +22,7 @@ INSTALL = install
 
 build = target/command
 sanitized = target/command-sanitized
+straight = target/command-straight
 sources = $(sort $(wildcard command/*.c))
 headers = $(wildcard command/*.h) include/corbelnib.h
 # all but main, for the tests that call the command's functions
@@ -65,6 +67,19 @@ $(build)/masters: tests/masters.c $(functions) $(headers) $(archive)
 	mkdir -p $(build)
 	$(compile) $(CFLAGS) tests/masters.c $(functions) $(archive) -o $@
 
+$(build)/wrong: tests/wrong.c $(functions) $(headers) $(archive)
+	mkdir -p $(build)
+	$(compile) $(CFLAGS) tests/wrong.c $(functions) $(archive) -o $@
+
+# the command with a search that does not rise to its settings but begins with them
+$(straight)/corbelnib: tests/straight.c $(sources) $(headers) $(archive)
+	mkdir -p $(straight)
+	$(compile) $(CFLAGS) tests/straight.c $(filter-out command/rise.c,$(sources)) $(archive) -o $@
+
+$(build)/terminal: tests/terminal.c
+	mkdir -p $(build)
+	$(compile) $(CFLAGS) tests/terminal.c -o $@
+
 syntax:
 	for file in $(sources) tests/*.c examples/*.c; do $(compile) -I command -fsyntax-only $$file && \
 	    $(compile) -I command $(sanitizers) -fsyntax-only $$file || exit 1; done
@@ -77,19 +92,29 @@ $(sanitized)/lent: tests/lent.c include/corbelnib.h $(archive)
 	mkdir -p $(sanitized)
 	$(compile) $(sanitizers) tests/lent.c $(archive) -o $@
 
-check: $(build)/corbelnib $(build)/lent
+# where memory is small and where the budget is, and both flags; the usual settings take minutes (check-rising)
+rising_settings = '--budget 3000 --memory 8M' '--memory 256K' '--budget 5000 --memory 16M --partial'
+at_once = COMMAND=$(CURDIR)/$(build)/corbelnib STRAIGHT=$(CURDIR)/$(straight)/corbelnib
+
+check: $(build)/corbelnib $(build)/lent $(build)/terminal $(straight)/corbelnib
 	$(build)/lent
+	$(at_once) sh tests/rising.sh 1 100 $(rising_settings)
+	COMMAND=$(CURDIR)/$(straight)/corbelnib sh tests/run.sh judge agree
 	CORBELNIB_ARCHIVE=$(CURDIR)/$(build) CC="$(CC)" sh tests/for-tables.sh
 	COMMAND=$(CURDIR)/$(build)/corbelnib sh tests/papers.sh
-	COMMAND=$(CURDIR)/$(build)/corbelnib sh tests/run.sh
+	COMMAND=$(CURDIR)/$(build)/corbelnib TERMINAL=$(CURDIR)/$(build)/terminal sh tests/run.sh
 
-check-sanitized: $(sanitized)/corbelnib $(sanitized)/damage $(sanitized)/lent
+check-sanitized: $(sanitized)/corbelnib $(sanitized)/damage $(sanitized)/lent $(build)/terminal
 	$(no_leaks) $(sanitized)/lent
-	$(no_leaks) SANITIZED=yes COMMAND=$(CURDIR)/$(sanitized)/corbelnib sh tests/run.sh
+	$(no_leaks) SANITIZED=yes COMMAND=$(CURDIR)/$(sanitized)/corbelnib TERMINAL=$(CURDIR)/$(build)/terminal sh tests/run.sh
 	$(no_leaks) $(sanitized)/damage 100000 1 tests/seeds/*
 
-check-masters: $(build)/masters
+check-rising: $(build)/corbelnib $(straight)/corbelnib
+	$(at_once) sh tests/rising.sh 1 100 '--budget 20000 --memory 64M' '--budget 100000 --memory 95M --partial' '' --partial
+
+check-masters: $(build)/masters $(build)/wrong
 	$(build)/masters 40 100
+	$(build)/wrong 8
 
 check-fc-solve: $(build)/corbelnib
 	COMMAND=$(CURDIR)/$(build)/corbelnib sh tests/fc-solve.sh
@@ -107,6 +132,6 @@ uninstall:
 	rm -f $(DESTDIR)$(LIBDIR)/pkgconfig/corbelnib.pc $(DESTDIR)$(MANDIR)/man1/corbelnib.1
 
 clean:
-	rm -rf $(build) $(sanitized) corbelnib
+	rm -rf $(build) $(sanitized) $(straight) corbelnib
 
-.PHONY: all syntax check check-sanitized check-masters check-fc-solve install uninstall clean
+.PHONY: all syntax check check-sanitized check-rising check-masters check-fc-solve install uninstall clean
