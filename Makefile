@@ -3,7 +3,7 @@
 #   make syntax            everything in C compiled with every warning an error, plainly and with the sanitizers; needs no library
 #   make check             the tests of the command, of the C boundary and of docs/FOR-TABLES.md (tests/README.md)
 #   make check-sanitized   the same with the address and undefined-behaviour sanitizers in the command's own code, and 100,000 damaged inputs
-#   make check-rising      hands 1 to 100 at the usual settings: what judge says is what it says where it begins with them
+#   make check-rising      hands 1 to 100 at large settings: what judge says is what it says where it begins with them
 #   make check-masters     true answers two by two, held to demand 3; answers with one member made wrong
 #   make check-fc-solve    hands 1 to 100 beside fc-solve (Debian's package freecell-solver-bin)
 #   make install PREFIX=.. command, library, header, pkg-config file and man page (DESTDIR is put before all paths)
@@ -96,8 +96,9 @@ $(sanitized)/lent: tests/lent.c include/corbelnib.h $(archive)
 rising_settings = '--budget 3000 --memory 8M' '--memory 256K' '--budget 5000 --memory 16M --partial'
 at_once = COMMAND=$(CURDIR)/$(build)/corbelnib STRAIGHT=$(CURDIR)/$(straight)/corbelnib
 
-check: $(build)/corbelnib $(build)/lent $(build)/terminal $(straight)/corbelnib
+check: $(build)/corbelnib $(build)/lent $(build)/terminal $(build)/wrong $(straight)/corbelnib
 	$(build)/lent
+	$(build)/wrong 8
 	$(at_once) sh tests/rising.sh 1 100 $(rising_settings)
 	COMMAND=$(CURDIR)/$(straight)/corbelnib sh tests/run.sh judge agree
 	CORBELNIB_ARCHIVE=$(CURDIR)/$(build) CC="$(CC)" sh tests/for-tables.sh
@@ -110,11 +111,11 @@ check-sanitized: $(sanitized)/corbelnib $(sanitized)/damage $(sanitized)/lent $(
 	$(no_leaks) $(sanitized)/damage 100000 1 tests/seeds/*
 
 check-rising: $(build)/corbelnib $(straight)/corbelnib
-	$(at_once) sh tests/rising.sh 1 100 '--budget 20000 --memory 64M' '--budget 100000 --memory 95M --partial' '' --partial
+	$(at_once) FORMS=json sh tests/rising.sh 1 100 '--budget 20000 --memory 64M' '--budget 100000 --memory 95M --partial' ''
 
 check-masters: $(build)/masters $(build)/wrong
 	$(build)/masters 40 100
-	$(build)/wrong 8
+	$(build)/wrong 100
 
 check-fc-solve: $(build)/corbelnib
 	COMMAND=$(CURDIR)/$(build)/corbelnib sh tests/fc-solve.sh
