@@ -4,7 +4,8 @@
 #   make check             the tests of the command, of the C boundary and of docs/FOR-TABLES.md (tests/README.md)
 #   make check-sanitized   the same with the address and undefined-behaviour sanitizers in the command's own code, and 100,000 damaged inputs
 #   make check-rising      hands 1 to 100 at large settings: what judge says is what it says where it begins with them
-#   make check-masters     true answers two by two, held to demand 3; answers with one member made wrong
+#   make check-masters     true answers two by two, held to demand 3, and as they come where a search rises to its settings; answers with
+#                          one member made wrong
 #   make check-fc-solve    hands 1 to 100 beside fc-solve (Debian's package freecell-solver-bin)
 #   make install PREFIX=.. command, library, header, pkg-config file and man page (DESTDIR is put before all paths)
 # CORBELNIB_ARCHIVE, if set, is a folder with a libcorbelnib.a that is taken as it is; else tools/archive.sh proves and builds it. What was
@@ -65,7 +66,7 @@ $(sanitized)/damage: tests/damage.c tests/read_all.c tests/read_all.h $(function
 
 $(build)/masters: tests/masters.c $(functions) $(headers) $(archive)
 	mkdir -p $(build)
-	$(compile) $(CFLAGS) tests/masters.c $(functions) $(archive) -o $@
+	$(compile) $(CFLAGS) -DBOARDS_FIRST=1 -DNODES_FIRST=1 tests/masters.c $(functions) $(archive) -o $@
 
 $(build)/wrong: tests/wrong.c $(functions) $(headers) $(archive)
 	mkdir -p $(build)
@@ -115,7 +116,7 @@ check-rising: $(build)/corbelnib $(straight)/corbelnib
 
 check-masters: $(build)/masters $(build)/wrong
 	$(build)/masters 40 100
-	$(build)/wrong 100
+	$(build)/wrong 40
 
 check-fc-solve: $(build)/corbelnib
 	COMMAND=$(CURDIR)/$(build)/corbelnib sh tests/fc-solve.sh

@@ -4,9 +4,11 @@
 
 #include "amount.h"
 
-/* The first step's boards; room for so many nodes a board. Most hands need two. */
+/* The first step's boards, and room for so many nodes a board; most hands need two. Tests begin with less, and so take more steps. */
+#ifndef BOARDS_FIRST
 #define BOARDS_FIRST 1000
 #define NODES_FIRST 4
+#endif
 
 /* A step that was too small is followed by one with so many times the boards, or the nodes a board. */
 #define STEP 4
