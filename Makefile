@@ -113,15 +113,15 @@ ifdef CORBELNIB_RUST
 endif
 
 # where memory is small and where the budget is, and both flags; the usual settings take minutes (check-rising)
-rising_settings = '--budget 3000 --memory 8M' '--memory 256K' '--budget 5000 --memory 16M --partial'
+rising_settings = '--budget 1500 --memory 8M' '--memory 256K' '--budget 4500 --memory 16M --partial'
 at_once = COMMAND=$(CURDIR)/$(build)/corbelnib STRAIGHT=$(CURDIR)/$(straight)/corbelnib
 
 check: $(build)/corbelnib $(build)/lent $(build)/terminal $(build)/wrong $(straight)/corbelnib $(oracles:%=$(build)/%) beside_the_original
 	$(build)/lent
 	sh tests/oracles.sh $(build)
-	$(build)/wrong 8
+	$(build)/wrong 4
 	$(at_once) sh tests/rising.sh 1 100 $(rising_settings)
-	COMMAND=$(CURDIR)/$(straight)/corbelnib sh tests/run.sh judge agree
+	COMMAND=$(CURDIR)/$(straight)/corbelnib sh tests/run.sh judge
 	CORBELNIB_ARCHIVE=$(CURDIR)/$(build) CC="$(CC)" sh tests/for-tables.sh
 	COMMAND=$(CURDIR)/$(build)/corbelnib sh tests/papers.sh
 	COMMAND=$(CURDIR)/$(build)/corbelnib TERMINAL=$(CURDIR)/$(build)/terminal sh tests/run.sh

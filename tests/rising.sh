@@ -4,6 +4,7 @@
 # one word, as '--budget 3000 --memory 8M'. JSON and text of the hands FIRST to LAST are compared byte for byte, and the status; where FORMS is
 # set to json that alone, which takes half the time. Prints for each SETTINGS how often each answer came, and the seconds of both.
 set -u
+: "${COMMAND:?the command}" "${STRAIGHT:?the command that does not rise}"
 first=${1:?the first hand} last=${2:?the last hand}
 shift 2
 forms=${FORMS:-json text}
@@ -26,15 +27,15 @@ all() { # COMMAND SETTINGS FORM
 }
 
 for settings; do
-    rising=0
-    straight=0
+    rose=0
+    began=0
     for form in $forms; do
         begun=$(date +%s)
         all "$COMMAND" "$settings" "$form" > "$scratch/rising.$form" 2>&1
         between=$(date +%s)
         all "$STRAIGHT" "$settings" "$form" > "$scratch/straight.$form" 2>&1
-        rising=$((rising + between - begun))
-        straight=$((straight + $(date +%s) - between))
+        rose=$((rose + between - begun))
+        began=$((began + $(date +%s) - between))
         if ! cmp "$scratch/rising.$form" "$scratch/straight.$form"; then
             failed=1
             diff "$scratch/rising.$form" "$scratch/straight.$form" | head -n 20
@@ -42,6 +43,10 @@ for settings; do
     done
     answers=$(sed -n 's/^  "answer": \([0-9]*\),/\1/p' "$scratch/straight.json" | sort -n | uniq -c |
         awk '{ printf "%s%s times %s", sep, $1, $2; sep = ", " }')
-    echo "hands $first to $last, ${settings:-as it is}: $answers; rising $rising s, straight $straight s"
+    if [ "$(grep -c '^  "answer": ' "$scratch/straight.json")" -ne $((last - first + 1)) ]; then
+        echo "not every hand was answered"
+        failed=1
+    fi
+    echo "hands $first to $last, ${settings:-as it is}: $answers; rising $rose s, straight $began s"
 done
 exit "$failed"
