@@ -26,7 +26,7 @@ build = target/command
 sanitized = target/command-sanitized
 straight = target/command-straight
 sources = $(sort $(wildcard command/*.c))
-headers = $(wildcard command/*.h) include/corbelnib.h
+headers = $(wildcard command/*.h) include/corbelnib.h include/corbelnib_says.h
 # all but main, for the tests that call the command's functions
 functions = $(filter-out command/main.c,$(sources))
 sanitizers = -g -O1 -fsanitize=address,undefined -fno-sanitize-recover=all
@@ -47,19 +47,27 @@ ifdef CORBELNIB_ARCHIVE
 $(archive): $(CORBELNIB_ARCHIVE)/libcorbelnib.a
 	mkdir -p $(build)
 	cp $< $@
+	$(call with_module,$(CORBELNIB_ARCHIVE))
 else
 $(archive): tools/archive.sh crates.txt $(shell find crates -name '*.rt' -o -name '*.antt')
 	mkdir -p $(build)
-	folder=$$(sh tools/archive.sh) && cp "$$folder/libcorbelnib.a" $@
+	folder=$$(sh tools/archive.sh) && cp "$$folder/libcorbelnib.a" $@ && $(call with_module,$$folder)
 endif
 
-$(build)/corbelnib: $(sources) $(headers) $(archive)
-	mkdir -p $(build)
-	$(compile) $(CFLAGS) $(sources) $(archive) $(LDFLAGS) -o $@
+# the proved module comes with the library where it lies beside it; what it is goes into the command (tools/identity.sh)
+with_module = { cp "$(1)/module.bc" $(build)/module.bc 2> /dev/null || rm -f $(build)/module.bc; }
+identity = -I $(build) -DCORBELNIB_IDENTITY='"built.h"'
 
-$(sanitized)/corbelnib: $(sources) $(headers) $(archive)
+$(build)/built.h: tools/identity.sh $(archive)
+	sh tools/identity.sh $(build) > $@
+
+$(build)/corbelnib: $(sources) $(headers) $(archive) $(build)/built.h
+	mkdir -p $(build)
+	$(compile) $(identity) $(CFLAGS) $(sources) $(archive) $(LDFLAGS) -o $@
+
+$(sanitized)/corbelnib: $(sources) $(headers) $(archive) $(build)/built.h
 	mkdir -p $(sanitized)
-	$(compile) $(sanitizers) $(sources) $(archive) -o $@
+	$(compile) $(identity) $(sanitizers) $(sources) $(archive) -o $@
 
 $(sanitized)/damage: tests/damage.c tests/read_all.c tests/read_all.h $(functions) $(headers) $(archive)
 	mkdir -p $(sanitized)
@@ -85,6 +93,13 @@ $(build)/terminal: tests/terminal.c
 syntax:
 	for file in $(sources) tests/*.c examples/*.c bench/*.c; do $(compile) -I command -fsyntax-only $$file && \
 	    $(compile) -I command $(sanitizers) -fsyntax-only $$file || exit 1; done
+	$(CC) -std=c99 $(WARNINGS) -I include -fsyntax-only tests/c99.c
+	if command -v $(CXX) > /dev/null; then $(CXX) -std=c++11 $(WARNINGS) -I include -fsyntax-only -x c++ tests/c99.c; fi
+
+# --version alone, with a library of another version
+$(build)/mismatch: tests/mismatch.c command/identity.c $(headers)
+	mkdir -p $(build)
+	$(compile) $(CFLAGS) tests/mismatch.c command/identity.c -o $@
 
 $(build)/lent: tests/lent.c include/corbelnib.h $(archive)
 	mkdir -p $(build)
@@ -116,8 +131,11 @@ endif
 rising_settings = '--budget 1500 --memory 8M' '--memory 256K' '--budget 4500 --memory 16M --partial'
 at_once = COMMAND=$(CURDIR)/$(build)/corbelnib STRAIGHT=$(CURDIR)/$(straight)/corbelnib
 
-check: $(build)/corbelnib $(build)/lent $(build)/terminal $(build)/wrong $(straight)/corbelnib $(oracles:%=$(build)/%) beside_the_original
+check: $(build)/corbelnib $(build)/lent $(build)/mismatch $(build)/terminal $(build)/wrong $(straight)/corbelnib $(oracles:%=$(build)/%) beside_the_original
 	$(build)/lent
+	$(build)/mismatch | sed 's/$(version)/VERSION/' | diff tests/mismatch.out -
+	sh tests/archive.sh
+	MAKE="$(MAKE)" sh tests/installed.sh
 	sh tests/oracles.sh $(build)
 	$(build)/wrong 4
 	$(at_once) sh tests/rising.sh 1 100 $(rising_settings)
@@ -146,12 +164,12 @@ install: $(build)/corbelnib
 	$(INSTALL) -d $(DESTDIR)$(BINDIR) $(DESTDIR)$(LIBDIR)/pkgconfig $(DESTDIR)$(INCLUDEDIR) $(DESTDIR)$(MANDIR)/man1
 	$(INSTALL) -m 755 $(build)/corbelnib $(DESTDIR)$(BINDIR)/corbelnib
 	$(INSTALL) -m 644 $(archive) $(DESTDIR)$(LIBDIR)/libcorbelnib.a
-	$(INSTALL) -m 644 include/corbelnib.h $(DESTDIR)$(INCLUDEDIR)/corbelnib.h
-	sed -e 's|@PREFIX@|$(PREFIX)|' -e 's|@VERSION@|$(version)|' command/corbelnib.pc.in > $(DESTDIR)$(LIBDIR)/pkgconfig/corbelnib.pc
+	$(INSTALL) -m 644 include/corbelnib.h include/corbelnib_says.h $(DESTDIR)$(INCLUDEDIR)/
+	sed -e 's|@PREFIX@|$(PREFIX)|' -e 's|@LIBDIR@|$(LIBDIR)|' -e 's|@INCLUDEDIR@|$(INCLUDEDIR)|' -e 's|@VERSION@|$(version)|' command/corbelnib.pc.in > $(DESTDIR)$(LIBDIR)/pkgconfig/corbelnib.pc
 	sed -e 's|@VERSION@|$(version)|' command/corbelnib.1 > $(DESTDIR)$(MANDIR)/man1/corbelnib.1
 
 uninstall:
-	rm -f $(DESTDIR)$(BINDIR)/corbelnib $(DESTDIR)$(LIBDIR)/libcorbelnib.a $(DESTDIR)$(INCLUDEDIR)/corbelnib.h
+	rm -f $(DESTDIR)$(BINDIR)/corbelnib $(DESTDIR)$(LIBDIR)/libcorbelnib.a $(DESTDIR)$(INCLUDEDIR)/corbelnib.h $(DESTDIR)$(INCLUDEDIR)/corbelnib_says.h
 	rm -f $(DESTDIR)$(LIBDIR)/pkgconfig/corbelnib.pc $(DESTDIR)$(MANDIR)/man1/corbelnib.1
 
 clean:

@@ -6,6 +6,7 @@
 #include "card.h"
 #include "commands.h"
 #include "demand.h"
+#include "emit.h"
 #include "evidence.h"
 #include "input.h"
 #include "options.h"

@@ -11,12 +11,10 @@
 /* What a controller has. */
 #define MEMORY_USUAL ((size_t)512 * 1024 * 1024)
 
+/* One block, carved as include/corbelnib.h does it. */
 struct scratch {
-    size_t capacity;
-    uint32_t *nodes;
-    uint64_t *heap;
-    uint64_t *keys;
-    uint8_t *costs;
+    void *block;
+    struct corbelnib_scratch parts;
 };
 
 /* False if there is not so much memory; nothing has to be taken back then. */

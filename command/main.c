@@ -5,8 +5,9 @@
 #include <string.h>
 
 #include "commands.h"
+#include "emit.h"
+#include "identity.h"
 #include "say.h"
-#include "version.h"
 
 static const struct command commands[] = {
     {"deal", run_deal, "the hand of a number: text, picture or image", help_deal},
@@ -38,9 +39,10 @@ static int no_command(const char *word) {
     return complain(STATUS_USAGE, NULL, "%s is expected; `corbelnib --help` tells more", said.text);
 }
 
-static bool asks_help(int argc, char **argv) {
+/* Whether an option is among some words. */
+static bool asks(int argc, char **argv, const char *option) {
     for (int i = 0; i < argc && strcmp(argv[i], "--") != 0; i++) {
-        if (strcmp(argv[i], "--help") == 0) {
+        if (strcmp(argv[i], option) == 0) {
             return true;
         }
     }
@@ -56,14 +58,17 @@ static int run(int argc, char **argv) {
         return STATUS_DONE;
     }
     if (strcmp(argv[1], "--version") == 0) {
-        printf("corbelnib %s\n", CORBELNIB_VERSION);
+        identity_print();
         return STATUS_DONE;
+    }
+    if (asks(argc - 1, argv + 1, "--json")) {
+        failures_in_json();
     }
     for (size_t i = 0; i < COMMANDS; i++) {
         if (strcmp(argv[1], commands[i].name) != 0) {
             continue;
         }
-        if (asks_help(argc - 2, argv + 2)) {
+        if (asks(argc - 2, argv + 2, "--help")) {
             printf("%s", commands[i].help);
             return STATUS_DONE;
         }

@@ -8,10 +8,11 @@
 #include "line.h"
 #include "moves.h"
 #include "options.h"
+#include "played.h"
 #include "show.h"
 
 const char help_play[] =
-    "usage: corbelnib play BOARD [LINE | --records FILE] [--figures] [--moves] [--picture [--ascii] [--colour]]\n"
+    "usage: corbelnib play BOARD [LINE | --records FILE] [--figures] [--moves] [--picture [--ascii] [--colour]] [--json]\n"
     "\n"
     "Plays a line of moves and tells whether each is legal; if not, which one is the first that is not, and why. Then the\n"
     "board where it stopped. BOARD is as for `corbelnib judge`. LINE is one word in quotation marks; without it the line is\n"
@@ -24,6 +25,8 @@ const char help_play[] =
     "  --picture       draws the board\n"
     "  --ascii         letters for suits in the picture, and no colour\n"
     "  --colour        colour even if the output is no terminal\n"
+    "  --json          everything, for programs: an object whose `stopped` has place, number and meaning of a refused move; a\n"
+    "                  failure too\n"
     "\n"
     "examples: corbelnib play 8 '6a 5h 6h'\n"
     "          corbelnib judge 8 | sed 1d | corbelnib play 8 --figures\n"
@@ -35,7 +38,7 @@ static const char who[] = "play";
 
 struct asked {
     const char *records;
-    bool figures, moves, picture, ascii, colour;
+    bool figures, moves, picture, ascii, colour, json;
 };
 
 static void print_token(const uint8_t *board) {
@@ -109,6 +112,10 @@ static void print_verdict(const struct given *given, const struct played *played
 }
 
 static int tell(const struct asked *asked, const struct given *given, const struct played *played) {
+    if (asked->json) {
+        played_json(given, played);
+        return played->told == CORBELNIB_DONE ? STATUS_DONE : STATUS_NO;
+    }
     if (asked->figures || asked->moves) {
         print_moves(asked, given->board, played);
     }
@@ -139,7 +146,7 @@ static int play(const struct asked *asked, const struct given *given, const char
     }
     input_free(&input);
     if (status != STATUS_DONE) {
-        tell_refusal(who, name, &refusal, false);
+        tell_refusal(who, name, &refusal);
         return status;
     }
     return tell(asked, given, &played);
@@ -149,6 +156,9 @@ static int start(const struct asked *asked, const struct wordlist *words) {
     const char *line = words->count > 1 ? words->word[1] : NULL;
     if (words->count == 0) {
         return wrong_use(who, "a board is expected: a hand's number, a file, or - for standard input");
+    }
+    if (asked->json && (asked->figures || asked->moves || asked->picture)) {
+        return wrong_use(who, "--json tells all there is; --figures, --moves and --picture do not go with it");
     }
     if (line && asked->records) {
         return wrong_use(who, "a line and --records do not go together");
@@ -161,7 +171,7 @@ static int start(const struct asked *asked, const struct wordlist *words) {
     struct refusal refusal = {0};
     int status = given_read(words->word[0], &given, &refusal);
     if (status != STATUS_DONE) {
-        tell_refusal(who, given.name, &refusal, false);
+        tell_refusal(who, given.name, &refusal);
         return status;
     }
     return play(asked, &given, line);
@@ -175,6 +185,7 @@ int run_play(int argc, char **argv) {
                                      {"--picture", &asked.picture, NULL},
                                      {"--ascii", &asked.ascii, NULL},
                                      {"--colour", &asked.colour, NULL},
+                                     {"--json", &asked.json, NULL},
                                      {0}};
     struct wordlist words;
     int status = options_part(who, argc, argv, options, 2, &words);

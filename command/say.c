@@ -4,6 +4,8 @@
 #include <stdbool.h>
 #include <stdio.h>
 
+#include "emit.h"
+
 /* No more of a wrong word is repeated than shows which one it is. */
 #define QUOTED_MOST 24
 
@@ -50,8 +52,17 @@ void say_quoted(struct said *said, const unsigned char *word, size_t length) {
 }
 
 int complain(int status, const char *who, const char *format, ...) {
-    fprintf(stderr, "corbelnib%s%s: ", who ? " " : "", who ? who : "");
     va_list words;
+    /* of an output that failed nothing can be told there */
+    if (failures_are_json() && status != STATUS_NO_OUTPUT) {
+        char text[SAID_MOST];
+        va_start(words, format);
+        vsnprintf(text, sizeof text, format, words);
+        va_end(words);
+        failure_json(who, NULL, -1, text);
+        return status;
+    }
+    fprintf(stderr, "corbelnib%s%s: ", who ? " " : "", who ? who : "");
     va_start(words, format);
     vfprintf(stderr, format, words);
     va_end(words);

@@ -46,7 +46,7 @@ void say_count(struct said *said, size_t count, const char *one, const char *man
 /* A word from outside in quotation marks: printable characters as they are, others as \xNN, no more than a few. */
 void say_quoted(struct said *said, const unsigned char *word, size_t length);
 
-/* Prints "corbelnib WHO: .." on standard error and hands the status back. */
+/* Prints "corbelnib WHO: .." on standard error, or an object on standard output where failures are JSON (emit.h), and hands the status back. */
 int complain(int status, const char *who, const char *format, ...) SAYS(3, 4);
 
 #endif

@@ -28,7 +28,7 @@ fi
 export PATH="$scratch/bin:$PATH" T="$scratch/tmp" LC_ALL=C TERM=dumb
 unset NO_COLOR
 cd "$here/data" || exit 1
-version=$(corbelnib --version | sed 's/^corbelnib //; s/[.]/[.]/g')
+version=$(corbelnib --version | sed -n 's/[.]/[.]/g; s/^corbelnib //p')
 
 # Runs one line and prints it with what came back. A missing newline at the end of a stream is told.
 came_back() { # LINE
