@@ -6,6 +6,7 @@ use board::Examined;
 use board::Refusal;
 use card::Card;
 use card::Coded;
+use features::Features;
 use moves::Move;
 use questions::CountAnswer;
 use rules::YesNo;
@@ -48,17 +49,19 @@ fn signed(n: i64) {
     io::print_decimal(1, magnitude::size_of(n));
 }
 
-fn features(b: Board) {
+fn seven(f: Features) {
+    number(f.home);
+    number(f.immediate);
+    number(f.blocked);
+    number(f.imbalance);
+    number(f.used);
+    number(f.empty);
+    number(f.longest);
+}
+
+fn measured(b: Board) {
     match score::features_of(b) {
-        FeaturesAnswer::Are(f) => {
-            number(f.home);
-            number(f.immediate);
-            number(f.blocked);
-            number(f.imbalance);
-            number(f.used);
-            number(f.empty);
-            number(f.longest);
-        }
+        FeaturesAnswer::Are(f) => seven(f),
         FeaturesAnswer::Refused(why) => refusal(why),
     }
 }
@@ -247,7 +250,7 @@ fn candidates(b: Board) {
 }
 
 fn of_board(b: Board) {
-    features(b);
+    measured(b);
     score(score::heuristic_of(b));
     space();
     score(score::progress_of(b));
