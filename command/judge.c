@@ -9,11 +9,12 @@
 #include "watch.h"
 
 const char help_judge[] =
-    "usage: corbelnib judge BOARD [--partial] [--budget N] [--memory SIZE] [--moves] [--picture [--ascii] [--colour]] [--json]\n"
+    "usage: corbelnib judge BOARD [--partial] [--budget N] [--memory SIZE] [--moves] [--picture [--ascii] [--colour]]\n"
+    "                       [--line | --json]\n"
     "\n"
     "Looks for a winning line. BOARD is a hand's number, 1 to 32,000, or a file (- is standard input) with a board as\n"
-    "fc-solve reads it, an image, or a record of 432 bytes (docs/SCOPE.md), told apart by what they are. A file whose\n"
-    "name is a number is written ./617.\n"
+    "fc-solve reads it, or as deal, play or --picture print it, an image, or a record of 432 bytes (docs/SCOPE.md), told\n"
+    "apart by what they are. A file whose name is a number is written ./617.\n"
     "\n"
     "It looks at 1,000 boards first, in little memory, then at four times as many, and so on up to what was asked for, and\n"
     "says what a search with the settings asked for says. Between steps a line on a terminal tells how far it has come;\n"
@@ -22,6 +23,7 @@ const char help_judge[] =
     "  --partial      where no win is found, the line to the best board seen\n"
     "  --budget N     boards that are looked at, at most 1,000,000, which is the default\n"
     "  --memory SIZE  bytes, or with K, M or G; 512M if it is not given, as a controller has. A board takes 38 bytes\n"
+    "  --line         prints the line alone; the answer goes to standard error\n"
     "  --moves        the moves in words, one a line\n"
     "  --picture      the board after each move\n"
     "  --ascii        letters for suits in pictures, and no colour\n"
@@ -97,6 +99,7 @@ int run_judge(int argc, char **argv) {
     const struct option options[] = {{"--budget", NULL, &asked.budget},
                                      {"--memory", NULL, &asked.memory},
                                      {"--partial", &asked.partial, NULL},
+                                     {"--line", &asked.report.line, NULL},
                                      {"--moves", &asked.report.moves, NULL},
                                      {"--picture", &asked.report.picture, NULL},
                                      {"--json", &asked.json, NULL},
@@ -110,6 +113,9 @@ int run_judge(int argc, char **argv) {
     }
     if (words.count == 0) {
         return wrong_use(who, "a board is expected: a hand's number, a file, or - for standard input");
+    }
+    if (asked.report.line && (asked.json || asked.report.moves || asked.report.picture)) {
+        return wrong_use(who, "--line prints the line alone; --json, --moves and --picture do not go with it");
     }
     if (asked.json && (asked.report.moves || asked.report.picture)) {
         return wrong_use(who, "--json tells all there is; --moves and --picture do not go with it");

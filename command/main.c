@@ -5,6 +5,7 @@
 #include <string.h>
 
 #include "commands.h"
+#include "fold.h"
 #include "say.h"
 #include "version.h"
 
@@ -19,11 +20,13 @@ static const struct command commands[] = {
 #define COMMANDS (sizeof commands / sizeof *commands)
 
 static void print_help(void) {
-    printf("usage: corbelnib COMMAND ..\n\nA FreeCell judge.\n\n");
+    struct said said = {0};
+    say(&said, "usage: corbelnib COMMAND ..\n\nA FreeCell judge.\n\n");
     for (size_t i = 0; i < COMMANDS; i++) {
-        printf("  %-8s %s\n", commands[i].name, commands[i].brief);
+        say(&said, "  %-8s %s\n", commands[i].name, commands[i].brief);
     }
-    printf("\n`corbelnib COMMAND --help` tells more, with examples; `corbelnib --version` prints the version.\n");
+    say(&said, "\n`corbelnib COMMAND --help` tells more, with examples; `corbelnib --version` prints the version.\n");
+    print_folded(stdout, said.text);
 }
 
 static int no_command(const char *word) {
@@ -38,38 +41,58 @@ static int no_command(const char *word) {
     return complain(STATUS_USAGE, NULL, "%s is expected; `corbelnib --help` tells more", said.text);
 }
 
+static bool is_help(const char *word) {
+    return strcmp(word, "--help") == 0 || strcmp(word, "-h") == 0;
+}
+
 static bool asks_help(int argc, char **argv) {
     for (int i = 0; i < argc && strcmp(argv[i], "--") != 0; i++) {
-        if (strcmp(argv[i], "--help") == 0) {
+        if (is_help(argv[i])) {
             return true;
         }
     }
     return false;
 }
 
+static const struct command *command_named(const char *name) {
+    for (size_t i = 0; i < COMMANDS; i++) {
+        if (strcmp(name, commands[i].name) == 0) {
+            return &commands[i];
+        }
+    }
+    return NULL;
+}
+
+/* `help`, alone or with a command's name behind it. */
+static int run_help(const char *name) {
+    const struct command *command = name ? command_named(name) : NULL;
+    if (name && !command) {
+        return no_command(name);
+    }
+    if (command) {
+        print_folded(stdout, command->help);
+    } else {
+        print_help();
+    }
+    return STATUS_DONE;
+}
+
 static int run(int argc, char **argv) {
     if (argc < 2) {
         return no_command(NULL);
     }
-    if (strcmp(argv[1], "--help") == 0) {
-        print_help();
-        return STATUS_DONE;
+    if (is_help(argv[1]) || strcmp(argv[1], "help") == 0) {
+        return run_help(argc > 2 ? argv[2] : NULL);
     }
-    if (strcmp(argv[1], "--version") == 0) {
+    if (strcmp(argv[1], "--version") == 0 || strcmp(argv[1], "-V") == 0) {
         printf("corbelnib %s\n", CORBELNIB_VERSION);
         return STATUS_DONE;
     }
-    for (size_t i = 0; i < COMMANDS; i++) {
-        if (strcmp(argv[1], commands[i].name) != 0) {
-            continue;
-        }
-        if (asks_help(argc - 2, argv + 2)) {
-            printf("%s", commands[i].help);
-            return STATUS_DONE;
-        }
-        return commands[i].run(argc - 2, argv + 2);
+    const struct command *command = command_named(argv[1]);
+    if (!command) {
+        return no_command(argv[1]);
     }
-    return no_command(argv[1]);
+    return asks_help(argc - 2, argv + 2) ? run_help(command->name) : command->run(argc - 2, argv + 2);
 }
 
 /* What could not be written was not told, whatever it was. */
