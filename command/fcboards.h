@@ -11,7 +11,8 @@
 /* Whether a line divides two boards, or the boards from what stands before them. */
 bool fc_divides(const uint8_t *line, size_t length);
 
-/* Plays the moves that lead from one board to the next; the first must be the one given. Cells are filled from a on, in whatever order they are shown. */
+/* Plays the moves that lead from one board to the next; the first must be the one given. Cells are filled from a on, in whatever order
+ * they are shown. */
 bool fcboards_play(const uint8_t *board, const uint8_t *text, size_t length, struct played *played, struct refusal *refusal);
 
 #endif

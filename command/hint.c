@@ -70,7 +70,8 @@ void hint_text(const uint8_t *bytes, size_t length, struct said *why) {
         say(why, ". It says %.*s and nothing else: the hand of a number is asked for by the number in place of the file", (int)digits,
             (const char *)number);
     } else if (in_rows(bytes, length)) {
-        say(why, ". Its lines have 8 cards each and the last has 4: it seems to be written in rows, as a table shows a hand, and a line is a column here");
+        say(why, ". Its lines have 8 cards each and the last has 4: it seems to be written in rows, as a table shows a hand, "
+                 "and a line is a column here");
     }
 }
 
@@ -123,6 +124,7 @@ void hint_move(const struct played *played, bool theirs, struct said *said) {
         say(said, " Before it one card went into an empty column where more could, since no count was told; `fc-solve -m -snx` tells them.");
     } else if (!theirs && counted && played->told == CORBELNIB_OUT_OF_RANGE) {
         /* fc-solve writes v for every run into an empty column */
-        say(said, " v and a count stand only where fewer cards go into an empty column than could; if fc-solve wrote this line, --fc-solve reads it.");
+        say(said, " v and a count stand only where fewer cards go into an empty column than could; if fc-solve wrote this line, "
+                  "--fc-solve reads it.");
     }
 }
