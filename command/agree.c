@@ -8,6 +8,7 @@
 #include "demand.h"
 #include "emit.h"
 #include "evidence.h"
+#include "fold.h"
 #include "input.h"
 #include "options.h"
 #include "told.h"
@@ -81,6 +82,7 @@ static int read_file(struct outcome *o, size_t which, const char *name) {
     struct json_tree tree;
     struct said why = {0};
     o->answers[which].name = input_name(name);
+    input_prompt(name, "an answer");
     int status = input_read(name, ANSWER_MOST, &input, &why);
     if (status != STATUS_DONE) {
         return complain(status, who, "%s: %s", input_name(name), why.text);
@@ -327,51 +329,51 @@ static void print_table(const struct outcome *o) {
     }
 }
 
-static void print_broken(const struct outcome *o) {
+static void say_broken(struct said *said, const struct outcome *o) {
     for (size_t i = 0; i < o->count; i++) {
         if (broken(o, i)) {
-            printf("*** %s IS BROKEN: %s. ***\n", o->answers[i].name, o->found[i].broken.text);
+            say(said, "*** %s IS BROKEN: %s. ***\n", o->answers[i].name, o->found[i].broken.text);
         }
     }
     if (o->clash.length) {
-        printf("*** THIS CANNOT BE: %s. ***\n", o->clash.text);
+        say(said, "*** THIS CANNOT BE: %s. ***\n", o->clash.text);
     }
-    printf("A proved program cannot do that: a memory, a disk or a line between them is broken.\n");
+    say(said, "A proved program cannot do that: a memory, a disk or a line between them is broken.\n");
     if (o->clash.length && o->quick) {
-        printf("Not checked: without --quick each is judged again, and the broken one is named.\n");
+        say(said, "Not checked: without --quick each is judged again, and the broken one is named.\n");
     }
 }
 
 /* What is left beside what is broken, or all of it. Of an answer that is broken or contradicted its list alone is left. */
-static void print_checked(const struct outcome *o) {
+static void say_checked(struct said *said, const struct outcome *o) {
     bool all = all_well(o), both = all && o->count == FILES_MOST;
     const char *what = both ? "both" : all ? "it" : "the other";
     if (o->clash.length || broken(o, o->publish == 1)) {
-        printf(o->quick && !o->clash.length ? "Not checked. " : "");
+        say(said, o->quick && !o->clash.length ? "Not checked. " : "");
     } else if (o->quick) {
-        printf("Not checked: %s can be right. ", what);
+        say(said, "Not checked: %s can be right. ", what);
     } else {
-        printf("Judged again, %s %s so. ", what, both ? "are" : "is");
+        say(said, "Judged again, %s %s so. ", what, both ? "are" : "is");
     }
 }
 
-static void print_publish(const struct outcome *o) {
+static void say_publish(struct said *said, const struct outcome *o) {
     if (o->publish == NOTHING) {
-        printf("Publish nothing before it is found.\n");
+        say(said, "Publish nothing before it is found.\n");
         return;
     }
     const struct answer *a = published(o), *other = &o->answers[o->publish != 1];
     struct said posting = {0};
     say_posting(&posting, a);
-    print_checked(o);
+    say_checked(said, o);
     if (o->count == FILES_MOST) {
-        printf("Publish %s: %s; %s.\n", o->publish == EITHER ? "either" : a->name, posting.text, o->why.text);
+        say(said, "Publish %s: %s; %s.\n", o->publish == EITHER ? "either" : a->name, posting.text, o->why.text);
     } else {
-        printf("%s never has to be taken back: %s; %s.\n", o->quick && !a->wins ? "If it is, this may go up and" : "This may go up now and",
+        say(said, "%s never has to be taken back: %s; %s.\n", o->quick && !a->wins ? "If it is, this may go up and" : "This may go up now and",
                posting.text, o->why.text);
     }
     if (all_well(o) && o->publish < EITHER && !answer_won(a) && !answer_best(a) && answer_best(other)) {
-        printf("A best line%s is in %s alone.\n", is_won(other->last) ? ", which ends won," : "", other->name);
+        say(said, "A best line%s is in %s alone.\n", is_won(other->last) ? ", which ends won," : "", other->name);
     }
 }
 
@@ -379,10 +381,12 @@ static void print_words(const struct outcome *o) {
     print_title(o);
     print_table(o);
     printf("\n");
+    struct said said = {0};
     if (!all_well(o)) {
-        print_broken(o);
+        say_broken(&said, o);
     }
-    print_publish(o);
+    say_publish(&said, o);
+    print_folded(stdout, said.text);
 }
 
 static int compare(struct outcome *o) {

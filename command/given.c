@@ -4,6 +4,7 @@
 
 #include "amount.h"
 #include "blame.h"
+#include "hint.h"
 #include "input.h"
 #include "text.h"
 
@@ -62,7 +63,12 @@ bool given_bytes(const uint8_t *bytes, size_t length, struct given *given, struc
         return take_record(bytes, given, refusal);
     }
     bool taken = take_image(bytes, length, given, refusal);
-    if (refusal->number == CORBELNIB_WRONG_LENGTH) {
+    struct said meant = {0};
+    if (refusal->number == CORBELNIB_WRONG_LENGTH && hint_bytes(bytes, length, end, &meant)) {
+        given->form = FORM_TEXT;
+        refusal->number = NO_REFUSAL;
+        refusal->words = meant;
+    } else if (refusal->number == CORBELNIB_WRONG_LENGTH) {
         /* it may have been meant as a text */
         say(&refusal->words, " It was taken for an image because byte %zu is %u, which stands in no text.", end, bytes[end]);
     }
@@ -90,6 +96,7 @@ int given_read(const char *word, struct given *given, struct refusal *refusal) {
         return given_hand(hand, given, refusal) ? STATUS_DONE : STATUS_REFUSED;
     }
     struct input input;
+    input_prompt(word, "a board");
     int status = input_read(word, INPUT_MOST, &input, &refusal->words);
     if (status == STATUS_DONE) {
         status = given_bytes(input.bytes, input.length, given, refusal) ? STATUS_DONE : STATUS_REFUSED;

@@ -12,11 +12,12 @@
 #include "watch.h"
 
 const char help_judge[] =
-    "usage: corbelnib judge BOARD.. [--partial] [--budget N] [--memory SIZE] [--moves] [--picture [--ascii] [--colour]] [--json]\n"
+    "usage: corbelnib judge BOARD.. [--partial] [--budget N] [--memory SIZE] [--moves] [--picture [--ascii] [--colour]]\n"
+    "                       [--line | --json]\n"
     "\n"
     "Looks for a winning line, on one board after the other. BOARD is a hand's number, 1 to 32,000, or a file (- is\n"
-    "standard input) with a board as fc-solve reads it, an image, or a record of 432 bytes (docs/SCOPE.md), told apart by\n"
-    "what they are. A file whose name is a number is written ./617.\n"
+    "standard input) with a board as fc-solve reads it, or as deal, play or --picture print it, an image, or a record of\n"
+    "432 bytes (docs/SCOPE.md), told apart by what they are. A file whose name is a number is written ./617.\n"
     "\n"
     "It looks at 1,000 boards first, in little memory, then at four times as many, and so on up to what was asked for, and\n"
     "says what a search with the settings asked for says. Between steps a line on a terminal tells how far it has come;\n"
@@ -25,6 +26,7 @@ const char help_judge[] =
     "  --partial      where no win is found, the line to the best board seen\n"
     "  --budget N     boards that are looked at, at most 1,000,000, which is the default (`season run` has 100,000)\n"
     "  --memory SIZE  bytes, or with K, M or G; 512M if it is not given, as a controller has. A board takes 38 bytes\n"
+    "  --line         prints the line alone; the answer goes to standard error\n"
     "  --moves        the moves in words, one a line\n"
     "  --picture      the board after each move\n"
     "  --ascii        letters for suits in pictures, and no colour\n"
@@ -118,6 +120,9 @@ static int wrong_words(const struct asked *asked, const struct wordlist *words) 
     if (inputs > 1) {
         return wrong_use(who, "standard input cannot be two boards");
     }
+    if (asked->report.line && (asked->json || asked->report.moves || asked->report.picture)) {
+        return wrong_use(who, "--line prints the line alone; --json, --moves and --picture do not go with it");
+    }
     if (asked->json && (asked->report.moves || asked->report.picture)) {
         return wrong_use(who, "--json tells all there is; --moves and --picture do not go with it");
     }
@@ -130,6 +135,7 @@ int run_judge(int argc, char **argv) {
     const struct option options[] = {{"--budget", NULL, &asked.budget},
                                      {"--memory", NULL, &asked.memory},
                                      {"--partial", &asked.partial, NULL},
+                                     {"--line", &asked.report.line, NULL},
                                      {"--moves", &asked.report.moves, NULL},
                                      {"--picture", &asked.report.picture, NULL},
                                      {"--json", &asked.json, NULL},

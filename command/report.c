@@ -4,6 +4,7 @@
 #include <string.h>
 
 #include "emit.h"
+#include "fold.h"
 #include "moves.h"
 #include "version.h"
 
@@ -81,6 +82,35 @@ static void print_moves(const uint8_t *start, const struct verdict *verdict, con
     }
 }
 
+/* Where a card comes back from home there is no line on paper, but records are read as well. */
+static void print_records(const struct verdict *verdict) {
+    for (size_t i = 0; i < verdict->moves; i++) {
+        const uint8_t *record = verdict->list + CORBELNIB_MOVE * i;
+        printf("%u,%u,%u,%u,%u\n", record[0], record[1], record[2], record[3], record[4]);
+    }
+}
+
+static void print_line(const uint8_t *board, const struct verdict *verdict, const struct report *report) {
+    uint8_t text[CORBELNIB_TEXT];
+    size_t length;
+    uint8_t number = corbelnib_write_line(board, CORBELNIB_BOARD, verdict->list, CORBELNIB_MOVE * verdict->moves, text, sizeof text, &length);
+    if (number == CORBELNIB_DONE) {
+        struct said line = {0};
+        say_folded(&line, text, length);
+        printf("%s", line.text);
+    } else if (report->line) {
+        print_records(verdict);
+    } else {
+        printf("Move %zu cannot be written on paper: %s (%u) The moves in words:\n\n", length + 1, refusal_words(number), number);
+    }
+    if (!report->line && (number != CORBELNIB_DONE || report->moves || report->picture)) {
+        if (number == CORBELNIB_DONE) {
+            putchar('\n');
+        }
+        print_moves(board, verdict, report);
+    }
+}
+
 void report_words(const struct given *given, const struct settings *settings, const struct verdict *verdict,
                   const struct report *report) {
     struct said said = {0};
@@ -88,27 +118,13 @@ void report_words(const struct given *given, const struct settings *settings, co
     say(&said, ": ");
     say_answer(&said, verdict);
     say_search(&said, settings, verdict);
-    puts(said.text);
-    if (verdict->moves == 0) {
-        return;
+    say(&said, "\n");
+    print_folded(report->line ? stderr : stdout, said.text);
+    if (verdict->moves > 0 && !report->line) {
+        putchar('\n');
     }
-    uint8_t text[CORBELNIB_TEXT];
-    size_t length;
-    uint8_t number = corbelnib_write_line(given->board, CORBELNIB_BOARD, verdict->list, CORBELNIB_MOVE * verdict->moves, text,
-                                          sizeof text, &length);
-    putchar('\n');
-    if (number != CORBELNIB_DONE) {
-        printf("Move %zu cannot be written on paper: %s (%u) The moves in words:\n\n", length + 1, refusal_words(number), number);
-    } else {
-        struct said line = {0};
-        say_folded(&line, text, length);
-        printf("%s", line.text);
-    }
-    if (number != CORBELNIB_DONE || report->moves || report->picture) {
-        if (number == CORBELNIB_DONE) {
-            putchar('\n');
-        }
-        print_moves(given->board, verdict, report);
+    if (verdict->moves > 0) {
+        print_line(given->board, verdict, report);
     }
 }
 

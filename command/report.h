@@ -12,6 +12,7 @@
 /* What a reader wants to see beside the answer and its line. */
 struct report {
     bool moves, picture;
+    bool line; /* alone; the answer goes to standard error */
     struct pen pen;
 };
 

@@ -43,7 +43,7 @@ void say_number(struct said *said, size_t number);
 /* "1 move", "98 moves". */
 void say_count(struct said *said, size_t count, const char *one, const char *many);
 
-/* A word from outside in quotation marks: printable characters as they are, others as \xNN, no more than a few. */
+/* A word from outside in quotation marks, as it may be shown (utf8.h), and no more than a few characters of it. */
 void say_quoted(struct said *said, const unsigned char *word, size_t length);
 
 /* Prints "corbelnib WHO: .." on standard error, or an object on standard output where failures are JSON (emit.h), and hands the status back. */

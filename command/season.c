@@ -7,6 +7,7 @@
 #include <unistd.h>
 
 #include "amount.h"
+#include "blame_sheet.h"
 #include "commands.h"
 #include "figures.h"
 #include "input.h"
@@ -223,8 +224,8 @@ static int run(int argc, char **argv) {
 /* Begins the words of a refused sheet. */
 static void refuse_sheet(struct refusal *refusal, uint8_t number, const struct sheet *sheet) {
     refuse(refusal, number);
-    if (number == CORBELNIB_WRONG_SHEET && sheet->word[CORBELNIB_SHEET_BUDGET] > CORBELNIB_BUDGET) {
-        say(&refusal->words, " Its budget is above %s.", grouped(CORBELNIB_BUDGET).text);
+    if (number == CORBELNIB_WRONG_SHEET) {
+        blame_sheet(sheet, &refusal->words);
     }
 }
 
