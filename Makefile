@@ -3,7 +3,8 @@
 #   make syntax            everything in C compiled with every warning an error, plainly and with the sanitizers; needs no library
 #   make check             the tests of the command, of the C boundary (held to the original) and of docs/FOR-TABLES.md (tests/README.md)
 #   make check-sanitized   the same with the address and undefined-behaviour sanitizers in the command's own code, and 100,000 damaged inputs
-#   make check-masters     true answers two by two, held to demand 3
+#   make check-rising      hands 1 to 100 at large settings: what judge says is what it says where it begins with them
+#   make check-masters     true answers two by two, held to demand 3; answers with one member made wrong
 #   make check-fc-solve    hands 1 to 100 beside fc-solve (Debian's package freecell-solver-bin)
 #   make install PREFIX=.. command, library, header, pkg-config file and man page (DESTDIR is put before all paths)
 # CORBELNIB_RUST, if set, is the original's folder solver-core-rs/src: make check then builds bench/ and compare/ too (needs cargo).
@@ -22,6 +23,7 @@ INSTALL = install
 
 build = target/command
 sanitized = target/command-sanitized
+straight = target/command-straight
 sources = $(sort $(wildcard command/*.c))
 headers = $(wildcard command/*.h) include/corbelnib.h
 # all but main, for the tests that call the command's functions
@@ -66,6 +68,19 @@ $(build)/masters: tests/masters.c $(functions) $(headers) $(archive)
 	mkdir -p $(build)
 	$(compile) $(CFLAGS) tests/masters.c $(functions) $(archive) -o $@
 
+$(build)/wrong: tests/wrong.c $(functions) $(headers) $(archive)
+	mkdir -p $(build)
+	$(compile) $(CFLAGS) tests/wrong.c $(functions) $(archive) -o $@
+
+# the command with a search that does not rise to its settings but begins with them
+$(straight)/corbelnib: tests/straight.c $(sources) $(headers) $(archive)
+	mkdir -p $(straight)
+	$(compile) $(CFLAGS) tests/straight.c $(filter-out command/rise.c,$(sources)) $(archive) -o $@
+
+$(build)/terminal: tests/terminal.c
+	mkdir -p $(build)
+	$(compile) $(CFLAGS) tests/terminal.c -o $@
+
 syntax:
 	for file in $(sources) tests/*.c examples/*.c bench/*.c; do $(compile) -I command -fsyntax-only $$file && \
 	    $(compile) -I command $(sanitizers) -fsyntax-only $$file || exit 1; done
@@ -96,21 +111,32 @@ ifdef CORBELNIB_RUST
 	CORBELNIB_ARCHIVE=$(CURDIR)/$(build) sh compare/run.sh "$(CORBELNIB_RUST)" boards=1 > /dev/null
 endif
 
-check: $(build)/corbelnib $(build)/lent $(oracles:%=$(build)/%) beside_the_original
+# where memory is small and where the budget is, and both flags; the usual settings take minutes (check-rising)
+rising_settings = '--budget 3000 --memory 8M' '--memory 256K' '--budget 5000 --memory 16M --partial'
+at_once = COMMAND=$(CURDIR)/$(build)/corbelnib STRAIGHT=$(CURDIR)/$(straight)/corbelnib
+
+check: $(build)/corbelnib $(build)/lent $(build)/terminal $(build)/wrong $(straight)/corbelnib $(oracles:%=$(build)/%) beside_the_original
 	$(build)/lent
 	sh tests/oracles.sh $(build)
+	$(build)/wrong 8
+	$(at_once) sh tests/rising.sh 1 100 $(rising_settings)
+	COMMAND=$(CURDIR)/$(straight)/corbelnib sh tests/run.sh judge agree
 	CORBELNIB_ARCHIVE=$(CURDIR)/$(build) CC="$(CC)" sh tests/for-tables.sh
 	COMMAND=$(CURDIR)/$(build)/corbelnib sh tests/papers.sh
-	COMMAND=$(CURDIR)/$(build)/corbelnib sh tests/run.sh
+	COMMAND=$(CURDIR)/$(build)/corbelnib TERMINAL=$(CURDIR)/$(build)/terminal sh tests/run.sh
 
-check-sanitized: $(sanitized)/corbelnib $(sanitized)/damage $(sanitized)/lent $(oracles:%=$(sanitized)/%)
+check-sanitized: $(sanitized)/corbelnib $(sanitized)/damage $(sanitized)/lent $(build)/terminal $(oracles:%=$(sanitized)/%)
 	$(no_leaks) $(sanitized)/lent
 	$(no_leaks) sh tests/oracles.sh $(sanitized)
-	$(no_leaks) SANITIZED=yes COMMAND=$(CURDIR)/$(sanitized)/corbelnib sh tests/run.sh
+	$(no_leaks) SANITIZED=yes COMMAND=$(CURDIR)/$(sanitized)/corbelnib TERMINAL=$(CURDIR)/$(build)/terminal sh tests/run.sh
 	$(no_leaks) $(sanitized)/damage 100000 1 tests/seeds/*
 
-check-masters: $(build)/masters
+check-rising: $(build)/corbelnib $(straight)/corbelnib
+	$(at_once) FORMS=json sh tests/rising.sh 1 100 '--budget 20000 --memory 64M' '--budget 100000 --memory 95M --partial' ''
+
+check-masters: $(build)/masters $(build)/wrong
 	$(build)/masters 40 100
+	$(build)/wrong 100
 
 check-fc-solve: $(build)/corbelnib
 	COMMAND=$(CURDIR)/$(build)/corbelnib sh tests/fc-solve.sh
@@ -128,6 +154,6 @@ uninstall:
 	rm -f $(DESTDIR)$(LIBDIR)/pkgconfig/corbelnib.pc $(DESTDIR)$(MANDIR)/man1/corbelnib.1
 
 clean:
-	rm -rf $(build) $(sanitized) corbelnib
+	rm -rf $(build) $(sanitized) $(straight) corbelnib
 
-.PHONY: all syntax check beside_the_original check-sanitized check-masters check-fc-solve install uninstall clean
+.PHONY: all syntax check beside_the_original check-sanitized check-rising check-masters check-fc-solve install uninstall clean

@@ -6,6 +6,7 @@
 #include "options.h"
 #include "report.h"
 #include "show.h"
+#include "watch.h"
 
 const char help_judge[] =
     "usage: corbelnib judge BOARD [--partial] [--budget N] [--memory SIZE] [--moves] [--picture [--ascii] [--colour]] [--json]\n"
@@ -13,6 +14,10 @@ const char help_judge[] =
     "Looks for a winning line. BOARD is a hand's number, 1 to 32,000, or a file (- is standard input) with a board as\n"
     "fc-solve reads it, an image, or a record of 432 bytes (docs/SCOPE.md), told apart by what they are. A file whose\n"
     "name is a number is written ./617.\n"
+    "\n"
+    "It looks at 1,000 boards first, in little memory, then at four times as many, and so on up to what was asked for, and\n"
+    "says what a search with the settings asked for says. Between steps a line on a terminal tells how far it has come;\n"
+    "Ctrl-C says what is known so far.\n"
     "\n"
     "  --partial      where no win is found, the line to the best board seen\n"
     "  --budget N     boards that are looked at, at most 1,000,000, which is the default\n"
@@ -28,7 +33,8 @@ const char help_judge[] =
     "          corbelnib deal 617 | corbelnib judge - --budget 20000 --partial\n"
     "          corbelnib judge hand.img --json > answer.json\n"
     "\n"
-    "status: 0 won, 1 not won, 2 refused, 64 wrong use, 66 no such file, 71 no memory, 74 the output failed\n";
+    "status: 0 won, 1 not won, 2 refused, 64 wrong use, 66 no such file, 71 no memory, 74 the output failed,\n"
+    "        130 stopped by Ctrl-C\n";
 
 static const char who[] = "judge";
 
@@ -51,13 +57,10 @@ static int settle(const struct asked *asked, struct settings *settings) {
 }
 
 static int answer(const struct asked *asked, const struct given *given, const struct settings *settings) {
-    struct scratch scratch;
     struct verdict verdict;
-    if (!lend(&scratch, settings->capacity)) {
-        return complain(STATUS_NO_MEMORY, who, "this machine does not hand out %zu bytes of memory", settings->memory);
+    if (!judge_watched(who, given, settings, &verdict)) {
+        return STATUS_NO_MEMORY;
     }
-    judge_with(given->board, settings, &scratch, &verdict);
-    take_back(&scratch);
     if (!CORBELNIB_IS_ANSWER(verdict.told)) {
         struct refusal refusal = {0};
         refuse(&refusal, verdict.told);

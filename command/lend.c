@@ -38,3 +38,16 @@ void judge_with(const uint8_t *board, const struct settings *settings, struct sc
                                     s->heap, CORBELNIB_HEAP(n), s->keys, CORBELNIB_KEYS(n), s->costs, CORBELNIB_COSTS(n),
                                     verdict->list, sizeof verdict->list, &verdict->pops, &verdict->moves);
 }
+
+void leave_line_out(struct verdict *verdict) {
+    if (verdict->told == CORBELNIB_WON) {
+        return;
+    }
+    if (verdict->told == CORBELNIB_BEST_AT_LIMIT || verdict->told == CORBELNIB_BEST_IS_WON) {
+        verdict->told = CORBELNIB_LIMIT;
+    } else if (verdict->told == CORBELNIB_BEST_EXHAUSTED) {
+        verdict->told = CORBELNIB_EXHAUSTED;
+    }
+    verdict->moves = 0;
+    memset(verdict->list, 0, sizeof verdict->list);
+}

@@ -37,4 +37,7 @@ struct verdict {
 /* Judges a board with the scratch that was lent. */
 void judge_with(const uint8_t *board, const struct settings *settings, struct scratch *scratch, struct verdict *verdict);
 
+/* What the same search says where no best line is allowed: the flag is asked at its end alone (search/specs/Solve.antt, `answer`). */
+void leave_line_out(struct verdict *verdict);
+
 #endif

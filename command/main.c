@@ -12,7 +12,7 @@ static const struct command commands[] = {
     {"deal", run_deal, "the hand of a number: text, picture or image", help_deal},
     {"judge", run_judge, "look for a winning line", help_judge},
     {"play", run_play, "play a line of moves by the rules", help_play},
-    {"agree", run_agree, "two answers to one board, side by side", help_agree},
+    {"agree", run_agree, "what may be published of one answer, or of two to one board", help_agree},
     {"season", run_season, "sheets of figures over many deals: made, added, shown", help_season},
 };
 

@@ -9,16 +9,13 @@
 
 #define MOVES_A_ROW 10
 
-/* Prints a line on paper. */
-static void fold_line(const uint8_t *text, size_t length) {
+void say_folded(struct said *said, const uint8_t *text, size_t length) {
     size_t moves = 0;
     for (size_t i = 0; i < length; i++) {
         bool ends = text[i] == ' ' && ++moves % MOVES_A_ROW == 0;
-        putchar(ends ? '\n' : text[i]);
+        say(said, "%c", ends ? '\n' : text[i]);
     }
-    if (length) {
-        putchar('\n');
-    }
+    say(said, length ? "\n" : "");
 }
 
 bool brings_list(uint8_t answer) {
@@ -103,7 +100,9 @@ void report_words(const struct given *given, const struct settings *settings, co
     if (number != CORBELNIB_DONE) {
         printf("Move %zu cannot be written on paper: %s (%u) The moves in words:\n\n", length + 1, refusal_words(number), number);
     } else {
-        fold_line(text, length);
+        struct said line = {0};
+        say_folded(&line, text, length);
+        printf("%s", line.text);
     }
     if (number != CORBELNIB_DONE || report->moves || report->picture) {
         if (number == CORBELNIB_DONE) {

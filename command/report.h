@@ -18,6 +18,9 @@ void report_words(const struct given *given, const struct settings *settings, co
                   const struct report *report);
 void report_json(const struct given *given, const struct settings *settings, const struct verdict *verdict);
 
+/* A line on paper, ten moves a row. */
+void say_folded(struct said *said, const uint8_t *text, size_t length);
+
 /* Whether an answer brings a list. */
 bool brings_list(uint8_t answer);
 

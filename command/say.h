@@ -14,7 +14,8 @@ enum status {
     STATUS_NO_INPUT = 66,
     STATUS_NO_MEMORY = 71,
     STATUS_NO_FILE = 73, /* a file cannot be made */
-    STATUS_NO_OUTPUT = 74
+    STATUS_NO_OUTPUT = 74,
+    STATUS_STOPPED = 130 /* by Ctrl-C, as shells count it */
 };
 
 #ifdef __GNUC__
