@@ -3,6 +3,7 @@
 #include <stdio.h>
 
 #include "say.h"
+#include "version.h"
 
 #define ANSWERS 7
 #define LENGTHS 201 /* of won lists: 0 to 200 moves */
@@ -128,6 +129,7 @@ void figures_show(const struct sheet *sheet) {
         deals += sheet_covers(sheet, deal);
     }
     uint64_t wins = sheet->word[CORBELNIB_SHEET_ANSWERS], pops = sheet->word[CORBELNIB_SHEET_POPS];
+    printf("%s", is_proved() ? "" : "  NOT PROVED\n");
     printf("  settings  budget %s, %s nodes, %s\n", grouped(sheet->word[CORBELNIB_SHEET_BUDGET]).text,
            grouped(sheet->word[CORBELNIB_SHEET_CAPACITY]).text, sheet->word[CORBELNIB_SHEET_FLAG] ? "partial lists" : "no partial lists");
     show_deals(sheet, deals);

@@ -56,7 +56,7 @@ static int run(int argc, char **argv) {
         return STATUS_DONE;
     }
     if (strcmp(argv[1], "--version") == 0) {
-        printf("corbelnib %s\n", CORBELNIB_VERSION);
+        printf("corbelnib %s\n", version_told());
         return STATUS_DONE;
     }
     for (size_t i = 0; i < COMMANDS; i++) {
@@ -66,6 +66,9 @@ static int run(int argc, char **argv) {
         if (asks_help(argc - 2, argv + 2)) {
             printf("%s", commands[i].help);
             return STATUS_DONE;
+        }
+        if (!is_proved()) {
+            complain(0, NULL, "NOT PROVED: this command was built without the proofs (make unproved)");
         }
         return commands[i].run(argc - 2, argv + 2);
     }

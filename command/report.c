@@ -154,7 +154,7 @@ static void json_final(const uint8_t *board) {
 static void json_board(const struct given *given) {
     uint64_t signature = 0;
     corbelnib_signature(given->board, sizeof given->board, &signature);
-    printf("  \"version\": \"%s\",\n  \"input\": \"%s\",\n  \"hand\": ", CORBELNIB_VERSION, form_name(given->form));
+    printf("  \"version\": \"%s\",\n  \"input\": \"%s\",\n  \"hand\": ", version_told(), form_name(given->form));
     if (given->form == FORM_HAND) {
         printf("%zu", given->hand);
     } else {

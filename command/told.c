@@ -80,7 +80,7 @@ void tell_refusal(const char *who, const char *name, const struct refusal *refus
         complain(0, who, "%s: %s", name, refusal->words.text);
         return;
     }
-    printf("{\"version\": \"%s\", \"refused\": ", CORBELNIB_VERSION);
+    printf("{\"version\": \"%s\", \"refused\": ", version_told());
     if (refusal->number == NO_REFUSAL) {
         printf("null");
     } else {
