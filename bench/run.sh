@@ -2,6 +2,7 @@
 # Measures our search beside the original Rust's: bench/run.sh SOURCES [NAME=NUMBER..]; --help tells more (usage.txt).
 set -eu
 here=$(cd "$(dirname "$0")" && pwd)
+# shellcheck source=../tools/beside.sh
 . "$here/../tools/beside.sh"
 cargo=${CARGO_TARGET_DIR:-$here/target}
 built() { # FOLDER OPTION..

@@ -5,6 +5,7 @@
 set -eu
 root=$(cd "$(dirname "$0")/.." && pwd)
 folder=$(sh "$root/tools/library.sh")
+# shellcheck disable=SC2086 # words of the compiler
 ${CC:-cc} -std=c11 -O2 -Wall -Wextra -pedantic ${CFLAGS:-} -I "$root/include" "$root/examples/judge.c" "$folder/libcorbelnib.a" \
     -o "$folder/judge"
 exec "$folder/judge" "$@"

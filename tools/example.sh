@@ -8,6 +8,7 @@ cd "$(dirname "$0")/.."
 CFLAGS="-Werror ${CFLAGS:-}"
 export CFLAGS
 if [ "${1:-}" = --compile ]; then
+    # shellcheck disable=SC2086 # words of the compiler
     ${CC:-cc} -std=c11 -Wall -Wextra -pedantic $CFLAGS -I include -fsyntax-only examples/judge.c
     exit
 fi

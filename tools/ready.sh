@@ -14,6 +14,6 @@ compiler=${CC:-cc}
 command -v "${compiler%% *}" > /dev/null || missing "the C compiler \`${compiler%% *}\` is not found; CC names another."
 [ "${1:-}" != compiler ] || exit 0
 command -v rt > /dev/null ||
-    missing "\`rt\`, which proves the library before it is built, is not in PATH; it comes with the kit '$kit'."
+    missing "\`rt\`, which proves and compiles the library, is not in PATH; it comes with the kit '$kit'."
 found=$(rt version 2>&1) || missing "\`rt version\` fails: $found"
 [ "$found" = "$kit" ] || missing "\`rt\` is of the kit '$found', and the proofs are for '$kit'."

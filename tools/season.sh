@@ -122,6 +122,7 @@ fi
 
 covers=$first-$last
 [ "$first" -lt "$last" ] || covers=$first
+# shellcheck disable=SC2046,SC2086,SC2059 # names of files of ours
 "$command" season add -o ../season.new $(printf "$kind-%s.sheet\n" $all) ||
     no 1 'a shard that is refused can be deleted: the same command again judges it anew'
 cd ..
