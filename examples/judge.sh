@@ -5,7 +5,8 @@
 set -eu
 root=$(cd "$(dirname "$0")/.." && pwd)
 folder=$(sh "$root/tools/library.sh")
+mkdir -p "$root/target"
 # shellcheck disable=SC2086 # words of the compiler
 ${CC:-cc} -std=c11 -O2 -Wall -Wextra -pedantic ${CFLAGS:-} -I "$root/include" "$root/examples/judge.c" "$folder/libcorbelnib.a" \
-    -o "$folder/judge"
-exec "$folder/judge" "$@"
+    -o "$root/target/judge"
+exec "$root/target/judge" "$@"

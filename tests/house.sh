@@ -67,7 +67,8 @@ cp "$archive/libcorbelnib.a" "$copy/target/command"
 judged() { env -u CORBELNIB_ARCHIVE PATH="$bare:$PATH" sh "$copy/examples/judge.sh" crates/oneboard/stdin 2>&1; }
 said=$(judged) || wrong 'examples/judge.sh does not take the library that is there:' "$said"
 [ "$said" = "$(printf '0 2 1\n2 0 3 1 211')" ] || wrong 'examples/judge.sh prints with the library that is there:' "$said"
-touch -d '1 hour' "$copy/crates/oneboard/src/newer.rt" 2> /dev/null || touch -t 209901010000 "$copy/crates/oneboard/src/newer.rt"
+touch -t 200001010000 "$copy/target/command/libcorbelnib.a"
+touch "$copy/crates/oneboard/src/newer.rt"
 said=$(judged) && wrong 'examples/judge.sh takes a library that is older than its sources'
 case $said in *'the proofs are for'*) ;; *) wrong 'examples/judge.sh says of a library that is older than its sources:' "$said" ;; esac
 for script in bench/run.sh compare/run.sh bench/stack.sh tools/example.sh; do
@@ -107,9 +108,13 @@ fi
 if command -v rt > /dev/null; then
     make -s unproved > "$scratch/said" 2>&1 || wrong 'make unproved fails:' "$(cat "$scratch/said")"
     unproved=$root/target/command-unproved
-    for words in --version 'judge 8' 'judge 8 --json' 'play 8 6a' 'season run 8 8 --budget 100 --nodes 1000'; do
+    "$unproved/corbelnib" judge 8 --json > "$scratch/answer" 2> /dev/null
+    "$unproved/corbelnib" season run 8 8 --budget 100 --nodes 1000 > "$scratch/sheet" 2> "$scratch/said"
+    grep -q 'NOT PROVED' "$scratch/said" || wrong 'corbelnib-unproved season run does not say NOT PROVED'
+    for words in --version 'judge 8' 'judge 8 --json' 'play 8 6a' "season show $scratch/sheet" "agree $scratch/answer" "agree --json $scratch/answer" \
+        'judge --json 32001'; do
         # shellcheck disable=SC2086 # words of the command
-        "$unproved/corbelnib" $words 2>&1 | grep -aq 'NOT PROVED' || wrong "corbelnib-unproved $words does not say NOT PROVED"
+        "$unproved/corbelnib" $words 2> /dev/null | grep -q 'NOT PROVED' || wrong "corbelnib-unproved $words does not say NOT PROVED"
     done
     for words in 'judge 8' 'judge 8 --json --moves' 'judge 11982 --budget 300' 'play 8 6a'; do
         # shellcheck disable=SC2086 # words of the command
@@ -118,7 +123,6 @@ if command -v rt > /dev/null; then
         target/command/corbelnib $words > "$scratch/proved" 2> /dev/null
         cmp -s "$scratch/unproved" "$scratch/proved" || wrong "corbelnib-unproved $words says something else than corbelnib"
     done
-    "$unproved/corbelnib" judge 8 --json > "$scratch/answer" 2> /dev/null
     target/command/corbelnib agree "$scratch/answer" > /dev/null 2>&1 && wrong 'agree takes an answer that is not proved for one that is'
     said=$(CORBELNIB_ARCHIVE=$unproved make -s install build="$scratch/not-proved" DESTDIR="$scratch/installed" 2>&1) &&
         wrong 'make install takes a library that is not proved'
