@@ -68,7 +68,7 @@ static int run(int argc, char **argv) {
             return STATUS_DONE;
         }
         if (!is_proved()) {
-            complain(0, NULL, "NOT PROVED: this command was built without the proofs (make unproved)");
+            fprintf(stderr, "corbelnib: NOT PROVED: this command was built without the proofs (make unproved)\n");
         }
         return commands[i].run(argc - 2, argv + 2);
     }
