@@ -66,10 +66,10 @@ static int read_answer(struct outcome *o, size_t which, const struct json *json)
     if (!answer_read(json, a, &why)) {
         return complain(STATUS_REFUSED, who, "%s: %s", a->name, why.text);
     }
-    if (strcmp(a->version, CORBELNIB_VERSION) != 0) {
+    if (strcmp(a->version, version_told()) != 0) {
         say_quoted(&why, (const unsigned char *)a->version, strlen(a->version));
         return complain(STATUS_REFUSED, who, "%s is by version %s, and this is %s: answers of two versions are not compared", a->name, why.text,
-                        CORBELNIB_VERSION);
+                        version_told());
     }
     if (!answer_check(json, a, &why)) {
         say(&o->found[which].broken, "it is no answer that can have been given: %s", why.text);
@@ -258,7 +258,7 @@ static void json_publish(const struct outcome *o) {
 static void print_json(const struct outcome *o) {
     struct said because = {0};
     say_because(&because, o);
-    printf("{\"version\": \"%s\", \"checked\": %s, \"%s\": %s, ", CORBELNIB_VERSION, o->quick ? "false" : "true",
+    printf("{\"version\": \"%s\", \"checked\": %s, \"%s\": %s, ", version_told(), o->quick ? "false" : "true",
            o->count == FILES_MOST ? "both_can_be_right" : "can_be_right", all_well(o) ? "true" : "false");
     json_broken(o);
     json_publish(o);
@@ -378,6 +378,7 @@ static void say_publish(struct said *said, const struct outcome *o) {
 }
 
 static void print_words(const struct outcome *o) {
+    printf("%s", is_proved() ? "" : "NOT PROVED. ");
     print_title(o);
     print_table(o);
     printf("\n");

@@ -124,7 +124,7 @@ bool failures_are_json(void) {
 void failure_json(const char *who, const char *about, int number, const char *words) {
     struct object failure;
     object_open(&failure, true);
-    object_text(&failure, "version", CORBELNIB_VERSION);
+    object_text(&failure, "version", version_told());
     object_text(&failure, "command", who);
     object_text(&failure, "about", about);
     if (number < 0) {

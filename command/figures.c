@@ -4,6 +4,7 @@
 
 #include "corbelnib_says.h"
 #include "say.h"
+#include "version.h"
 
 #define COLUMNS 80
 #define INDENT 12
@@ -125,6 +126,7 @@ static void show_histogram(const struct sheet *sheet) {
 void figures_show(const struct sheet *sheet) {
     size_t deals = deals_on(sheet);
     uint64_t wins = sheet->word[CORBELNIB_SHEET_ANSWERS], pops = sheet->word[CORBELNIB_SHEET_POPS];
+    printf("%s", is_proved() ? "" : "  NOT PROVED\n");
     printf("  settings  budget %s, %s nodes, %s\n", grouped(sheet->word[CORBELNIB_SHEET_BUDGET]).text,
            grouped(sheet->word[CORBELNIB_SHEET_CAPACITY]).text, sheet->word[CORBELNIB_SHEET_FLAG] ? "partial lists" : "no partial lists");
     show_deals(sheet, deals);

@@ -60,7 +60,7 @@ static void json_lists(struct object *object, const struct sheet *sheet) {
 void figures_json(const char *name, const struct sheet *sheet, bool one_line) {
     struct object object;
     object_open(&object, one_line);
-    object_text(&object, "version", CORBELNIB_VERSION);
+    object_text(&object, "version", version_told());
     object_text(&object, "file", name);
     object_number(&object, "budget", word(sheet, CORBELNIB_SHEET_BUDGET));
     object_number(&object, "capacity", word(sheet, CORBELNIB_SHEET_CAPACITY));

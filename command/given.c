@@ -7,6 +7,7 @@
 #include "hint.h"
 #include "input.h"
 #include "text.h"
+#include "version.h"
 
 static bool take_text(const uint8_t *bytes, size_t length, struct given *given, struct refusal *refusal) {
     struct layout layout;
@@ -113,4 +114,5 @@ void say_given(struct said *said, const struct given *given) {
         const char *from = strcmp(given->name, input_name("-")) == 0 ? "from" : "in";
         say(said, "The %s %s %s", form_name(given->form), from, given->name);
     }
+    say(said, "%s", is_proved() ? "" : " (NOT PROVED)");
 }

@@ -27,7 +27,7 @@ static void print_library(void) {
 }
 
 void identity_print(void) {
-    printf("corbelnib %s\n", CORBELNIB_VERSION);
+    printf("corbelnib %s\n", version_told());
     print_library();
     printf("module %s\nkit %s\n", IDENTITY_MODULE, IDENTITY_KIT);
 }

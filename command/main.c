@@ -9,6 +9,7 @@
 #include "fold.h"
 #include "identity.h"
 #include "say.h"
+#include "version.h"
 
 static const struct command commands[] = {
     {"deal", run_deal, "the hand of a number: text, picture or image", help_deal},
@@ -101,7 +102,13 @@ static int run(int argc, char **argv) {
     if (!command) {
         return no_command(argv[1]);
     }
-    return asks(argc - 2, argv + 2, is_help) ? run_help(command->name) : command->run(argc - 2, argv + 2);
+    if (asks(argc - 2, argv + 2, is_help)) {
+        return run_help(command->name);
+    }
+    if (!is_proved()) {
+        fprintf(stderr, "corbelnib: NOT PROVED: this command was built without the proofs (make unproved)\n");
+    }
+    return command->run(argc - 2, argv + 2);
 }
 
 /* What could not be written was not told, whatever it was. */

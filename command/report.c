@@ -171,7 +171,7 @@ void json_final(struct object *object, const uint8_t *board) {
 void json_given(struct object *object, const struct given *given) {
     uint64_t signature = 0;
     corbelnib_signature(given->board, sizeof given->board, &signature);
-    object_text(object, "version", CORBELNIB_VERSION);
+    object_text(object, "version", version_told());
     object_text(object, "input", form_name(given->form));
     if (given->form == FORM_HAND) {
         object_number(object, "hand", given->hand);

@@ -93,6 +93,7 @@ won=0
 solved=0
 hand=1
 while [ "$hand" -le "$last" ]; do
+    # shellcheck disable=SC2094 # hand is a file here, $hand a number
     "$command" deal "$hand" > hand || wrong "$hand" "not dealt"
     read_here "$hand"
     read_there "$hand"

@@ -33,6 +33,7 @@ for settings; do
         begun=$(date +%s)
         all "$COMMAND" "$settings" "$form" > "$scratch/rising.$form" 2>&1
         between=$(date +%s)
+        # shellcheck disable=SC2153 # from outside
         all "$STRAIGHT" "$settings" "$form" > "$scratch/straight.$form" 2>&1
         rose=$((rose + between - begun))
         began=$((began + $(date +%s) - between))

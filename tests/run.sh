@@ -15,7 +15,10 @@ if [ "${1:-}" = --update ]; then
     shift
 fi
 if [ $# -eq 0 ]; then
-    set -- $(cd "$here/cases" && ls | sed 's/[.]case$//')
+    for name in "$here"/cases/*.case; do
+        name=${name##*/}
+        set -- "$@" "${name%.case}"
+    done
 fi
 
 scratch=$(mktemp -d)

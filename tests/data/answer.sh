@@ -1,3 +1,4 @@
+# shellcheck shell=sh
 # Prints an answer in JSON with what it needs: answer.sh BOARD BUDGET CAPACITY PARTIAL ANSWER POPS [RECORD..]
 # BOARD is an image, a record 2,0,3,1,211; HAND is the hand's number, or null; other members come from MORE.
 board=$(corbelnib judge "$1" --memory 38 --budget 0 --json | sed -n 's/.*"board": \("[0-9a-f]*"\).*/\1/p')
