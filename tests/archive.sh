@@ -32,6 +32,7 @@ staticlib)
     ;;
 esac
 END
+# shellcheck disable=SC2016 # these are expanded where the script is run
 printf '#!/bin/sh\nfor word; do last=$word; done\necho compiled > "$last"\n' > "$folder/kit/on/$machine/toolchain/bin/clang"
 cp "$folder/kit/on/$machine/toolchain/bin/clang" "$folder/kit/on/$machine/toolchain/bin/llvm-ar"
 chmod +x "$folder/kit/bin/rt" "$folder/kit/on/$machine/toolchain/bin/"*

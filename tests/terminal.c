@@ -120,6 +120,9 @@ int main(int argc, char **argv) {
     }
     char *name = ptsname(master);
     pid_t child = fork();
+    if (child > 0) {
+        alarm(120); /* what is waited for and never comes fails, and does not hang */
+    }
     if (child == 0) {
         become(name, words);
     }
