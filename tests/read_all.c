@@ -5,12 +5,14 @@
 #include <string.h>
 
 #include "../command/answer.h"
+#include "../command/blame_sheet.h"
 #include "../command/demand.h"
 #include "../command/fcsolve.h"
 #include "../command/given.h"
 #include "../command/input.h"
 #include "../command/json.h"
 #include "../command/line.h"
+#include "../command/sheet.h"
 #include "../command/text.h"
 
 #define HAND 8
@@ -96,12 +98,30 @@ static void read_answer(const uint8_t *bytes, size_t length, struct accepted *ac
     json_free(&tree);
 }
 
+/* The sheet that begins with these bytes; the others are 0. A sheet that is added is good, and of any other a figure is blamed. */
+static void read_sheet(const uint8_t *bytes, size_t length, struct accepted *accepted) {
+    struct sheet sheet = {{0}}, total;
+    struct said why = {0};
+    for (size_t i = 0; i < length && i < SHEET_BYTES; i++) {
+        sheet.word[i / 8] |= (uint64_t)bytes[i] << (8 * (i % 8));
+    }
+    sheet_empty(&sheet, &total);
+    if (sheet_add(&total, &sheet) == CORBELNIB_DONE) {
+        accepted->sheets++;
+        hold(memcmp(total.word, sheet.word, sizeof total.word) == 0 || sheet.word[CORBELNIB_SHEET_FLAG] > 1, "the sum with nothing is another sheet");
+    } else {
+        blame_sheet(&sheet, &why);
+        hold(why.length > 0, "a sheet was refused without a word");
+    }
+}
+
 void read_all(const uint8_t *bytes, size_t length, struct accepted *accepted) {
     accepted->inputs++;
     if (length <= INPUT_MOST) {
         read_board(bytes, length, accepted);
         read_moves(bytes, length, accepted);
         read_solution(bytes, length, accepted);
+        read_sheet(bytes, length, accepted);
     }
     if (length <= ANSWER_MOST) {
         read_answer(bytes, length, accepted);
