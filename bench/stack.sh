@@ -3,7 +3,7 @@
 # with a libcorbelnib.a, which is then taken as it is.
 set -eu
 here=$(cd "$(dirname "$0")" && pwd)
-CORBELNIB_ARCHIVE=${CORBELNIB_ARCHIVE:-$(sh "$here/../tools/archive.sh")}
+CORBELNIB_ARCHIVE=$(sh "$here/../tools/library.sh")
 program=$(mktemp)
 trap 'rm -f "$program"' EXIT
 # bound at once, so that no call pays for the linker's work

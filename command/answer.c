@@ -1,8 +1,8 @@
 #include "answer.h"
 
+#include <stdio.h>
 #include <string.h>
 
-#include "card.h"
 #include "told.h"
 
 bool answer_won(const struct answer *a) {
@@ -25,6 +25,22 @@ bool answer_best(const struct answer *a) {
     return a->told == CORBELNIB_BEST_AT_LIMIT || a->told == CORBELNIB_BEST_EXHAUSTED || a->told == CORBELNIB_BEST_IS_WON;
 }
 
+bool answer_open(const struct answer *a) {
+    return answer_limit(a) || answer_no_room(a);
+}
+
+void say_posting(struct said *said, const struct answer *a) {
+    if (answer_won(a) && a->moves == 0) {
+        say(said, "won already");
+    } else if (answer_won(a)) {
+        say(said, "won in ");
+        say_count(said, a->moves, "move", "moves");
+    } else {
+        say(said, answer_exhausted(a) ? "exhausted after " : "open after ");
+        say_count(said, a->pops, "board", "boards");
+    }
+}
+
 static bool expected(const struct json *at, const char *name, const char *what, struct said *why) {
     say(why, "line %zu, column %zu: %s%s%s is expected", at->line, at->column, name ? name : "", name ? ": " : "", what);
     return false;
@@ -41,6 +57,28 @@ static bool read_number(const struct json *json, const char *name, size_t *numbe
         return expected(value ? value : json, name, "a whole number", why);
     }
     *number = (size_t)value->size;
+    return true;
+}
+
+static bool read_version(const struct json *json, struct answer *answer, struct said *why) {
+    const struct json *value = json_member(json, "version");
+    if (!value || value->kind != JSON_TEXT) {
+        return expected(value ? value : json, "version", "a text", why);
+    }
+    snprintf(answer->version, sizeof answer->version, "%s", value->text);
+    return true;
+}
+
+/* The number of a hand, or null where the board came in another way. */
+static bool read_hand(const struct json *json, struct answer *answer, struct said *why) {
+    const struct json *value = json_member(json, "hand");
+    if (value && value->kind == JSON_NULL) {
+        return true;
+    }
+    if (!is_number(value, CORBELNIB_NUMBER) || value->size == 0) {
+        return expected(value ? value : json, "hand", "null or a hand's number, 1 to 32,000,", why);
+    }
+    answer->hand = (size_t)value->size;
     return true;
 }
 
@@ -121,112 +159,8 @@ bool answer_read(const struct json *json, struct answer *answer, struct said *wh
         }
         return false;
     }
-    return read_board(json, answer, why) && read_number(json, "budget", &answer->budget, why) &&
+    return read_version(json, answer, why) && read_hand(json, answer, why) && read_board(json, answer, why) &&
+           read_number(json, "budget", &answer->budget, why) &&
            read_number(json, "capacity", &answer->capacity, why) && read_told(json, answer, why) &&
            read_number(json, "pops", &answer->pops, why) && read_list(json, answer, why);
-}
-
-static bool wrong(struct said *why, const char *what) {
-    say(why, "%s", what);
-    return false;
-}
-
-/* Settings with which the library refuses, so that no answer has them. */
-static bool check_settings(const struct answer *a, struct said *why) {
-    uint8_t number = corbelnib_examine(a->board, sizeof a->board);
-    if (number) {
-        say(why, "its board is refused with %u, and no board that is refused has an answer", number);
-        return false;
-    }
-    if (a->budget > CORBELNIB_BUDGET) {
-        return wrong(why, "its budget is above 1,000,000, and such a search is refused");
-    }
-    return a->capacity > 0 || wrong(why, "its memory does not hold one board, and such a search is refused");
-}
-
-static bool check_pops(const struct answer *a, struct said *why) {
-    if (a->pops > a->budget) {
-        return wrong(why, "more boards were taken than the budget allows");
-    }
-    return !answer_limit(a) || a->pops == a->budget || wrong(why, "it says that the budget is used up, and it is not");
-}
-
-static bool check_list(struct answer *a, struct said *why) {
-    size_t played = 0;
-    bool best = answer_best(a);
-    if (best && !a->partial) {
-        return wrong(why, "it brings a best line that nobody allowed");
-    }
-    if (best == (a->moves == 0) && !answer_won(a)) {
-        return wrong(why, best ? "it brings an empty best line" : "it brings a list, and its number says that there is none");
-    }
-    uint8_t number = corbelnib_replay(a->board, sizeof a->board, a->list, CORBELNIB_MOVE * a->moves, a->last, sizeof a->last, &played);
-    if (number) {
-        say(why, "move %zu of its list cannot be played (%u)", played + 1, number);
-        return false;
-    }
-    if (answer_won(a) || a->told == CORBELNIB_BEST_IS_WON) {
-        return is_won(a->last) || wrong(why, "its list does not end won");
-    }
-    return a->told != CORBELNIB_BEST_AT_LIMIT || !is_won(a->last) || wrong(why, "its list ends won, and it does not say so");
-}
-
-/* A best line leads to a strictly higher score than the start has. */
-static bool check_scores(struct answer *a, struct said *why) {
-    int64_t heuristic, start;
-    corbelnib_scores(a->board, sizeof a->board, &heuristic, &start);
-    corbelnib_scores(a->last, sizeof a->last, &heuristic, &a->progress);
-    return !answer_best(a) || a->progress > start || wrong(why, "its best line leads to no better board");
-}
-
-static bool same_text(const struct json *value, const uint8_t *text, size_t length) {
-    return value->kind == JSON_TEXT && value->length == length && memcmp(value->text, text, length) == 0;
-}
-
-static bool is_score(const struct json *value, int64_t score) {
-    uint64_t size = score < 0 ? (uint64_t)-score : (uint64_t)score;
-    return value->kind == JSON_NUMBER && value->whole && value->size == size && (size == 0 || value->negative == (score < 0));
-}
-
-/* The board after the list as the JSON tells it, where it does. */
-static bool check_final(const struct json *json, const struct answer *a, struct said *why) {
-    const struct json *final = json_member(json, "final");
-    const struct json *won = final ? json_member(final, "won") : NULL, *progress = final ? json_member(final, "progress") : NULL;
-    if (won && (won->kind == JSON_TRUE) != is_won(a->last)) {
-        return wrong(why, "what it says of the last board (won) is not so");
-    }
-    if (progress && !is_score(progress, a->progress)) {
-        return wrong(why, "what it says of the last board (progress) is not so");
-    }
-    const struct json *token = final ? json_member(final, "token") : NULL;
-    uint8_t text[CORBELNIB_TOKEN];
-    size_t length = 0;
-    corbelnib_token(a->last, sizeof a->last, text, sizeof text, &length);
-    return !token || same_text(token, text, length) || wrong(why, "what it says of the last board (token) is not so");
-}
-
-static bool check_told(const struct json *json, const struct answer *a, struct said *why) {
-    const struct json *signature = json_member(json, "signature"), *moves = json_member(json, "moves"), *line = json_member(json, "line");
-    struct said hex = {0};
-    uint64_t number = 0;
-    corbelnib_signature(a->board, sizeof a->board, &number);
-    say(&hex, "%016llx", (unsigned long long)number);
-    if (signature && !same_text(signature, (const uint8_t *)hex.text, hex.length)) {
-        return wrong(why, "its signature is not that of its board");
-    }
-    if (moves && (!is_number(moves, SIZE_MAX) || moves->size != a->moves)) {
-        return wrong(why, "its number of moves is not that of its list");
-    }
-    uint8_t text[CORBELNIB_TEXT];
-    size_t length = 0;
-    uint8_t refused = corbelnib_write_line(a->board, sizeof a->board, a->list, CORBELNIB_MOVE * a->moves, text, sizeof text, &length);
-    if (line && line->kind == JSON_TEXT && (refused || !same_text(line, text, length))) {
-        return wrong(why, "its line is not that of its list");
-    }
-    return check_final(json, a, why);
-}
-
-bool answer_check(const struct json *json, struct answer *answer, struct said *why) {
-    return check_settings(answer, why) && check_pops(answer, why) && check_list(answer, why) && check_scores(answer, why) &&
-           check_told(json, answer, why);
 }

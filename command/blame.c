@@ -9,7 +9,9 @@
 
 /* Where a card stands. A text is told by lines and cards, an image and a record by bytes. */
 static void say_in_column(struct said *said, const struct layout *layout, size_t column, size_t row) {
-    if (layout->form == FORM_TEXT) {
+    if (layout->drawn) {
+        say(said, "in column %zu (line %zu)", column + 1, layout->lines[column] + row);
+    } else if (layout->form == FORM_TEXT) {
         say(said, "in column %zu (line %zu, card %zu)", column + 1, layout->lines[column], row + 1);
     } else {
         say(said, "in column %zu (card %zu, byte %zu)", column + 1, row + 1, byte_of_card(layout, column, row));

@@ -3,6 +3,7 @@
 #include <string.h>
 
 #define TEN 10
+#define SIGN 3 /* bytes of a suit's sign */
 
 const char suit_letters[] = "CDHS";
 
@@ -55,20 +56,49 @@ size_t read_value(const uint8_t *word, size_t length, uint8_t *value) {
     return 1;
 }
 
-bool read_suit(uint8_t letter, uint8_t *suit) {
-    const char *found = letter ? strchr(suit_letters, upper(letter)) : NULL;
-    if (found) {
-        *suit = (uint8_t)(found - suit_letters);
+/* The sign that begins a word, black or white, perhaps with the mark behind it that asks for its colour. */
+static size_t read_sign(const uint8_t *word, size_t length, uint8_t *suit) {
+    static const char *const signs[] = {"\xe2\x99\xa3", "\xe2\x99\xa6", "\xe2\x99\xa5", "\xe2\x99\xa0",
+                                        "\xe2\x99\xa7", "\xe2\x99\xa2", "\xe2\x99\xa1", "\xe2\x99\xa4"};
+    for (size_t i = 0; i < 2 * SUITS && length >= SIGN; i++) {
+        if (memcmp(word, signs[i], SIGN) == 0) {
+            *suit = (uint8_t)(i % SUITS);
+            return length >= 2 * SIGN && memcmp(word + SIGN, "\xef\xb8\x8f", SIGN) == 0 ? 2 * SIGN : SIGN;
+        }
     }
-    return found != NULL;
+    return 0;
+}
+
+size_t read_suit(const uint8_t *word, size_t length, uint8_t *suit) {
+    const char *found = length && *word ? strchr(suit_letters, upper(*word)) : NULL;
+    if (!found) {
+        return read_sign(word, length, suit);
+    }
+    *suit = (uint8_t)(found - suit_letters);
+    return 1;
 }
 
 bool read_card(const uint8_t *word, size_t length, uint8_t *code) {
     uint8_t value, suit;
     size_t taken = read_value(word, length, &value);
-    if (taken == 0 || length != taken + 1 || !read_suit(word[taken], &suit)) {
+    size_t more = taken ? read_suit(word + taken, length - taken, &suit) : 0;
+    if (more == 0 || length != taken + more) {
         return false;
     }
     *code = code_of(value, suit);
     return true;
+}
+
+bool read_home(const uint8_t *word, size_t length, uint8_t *suit, uint8_t *value) {
+    size_t taken = read_suit(word, length, suit);
+    if (taken == 0 || length < taken + 2 || word[taken] != '-') {
+        return false;
+    }
+    size_t left = length - taken - 1;
+    word += taken + 1;
+    if (left == 1 && *word == '0') {
+        *value = 0;
+        return true;
+    }
+    return read_value(word, left, value) == left;
 }

@@ -65,10 +65,13 @@ void say_card(struct said *said, uint8_t code);
 /* A value as fc-solve reads it, in either case: A or 1, 2 to 9, 10, T or 0, J, Q, K. Hands back how many characters it takes, or 0. */
 size_t read_value(const uint8_t *word, size_t length, uint8_t *value);
 
-/* A suit by its letter, in either case. */
-bool read_suit(uint8_t letter, uint8_t *suit);
+/* A suit by its letter, in either case, or by its sign. Hands back how many bytes it takes, or 0. */
+size_t read_suit(const uint8_t *word, size_t length, uint8_t *suit);
 
 /* A whole word that is a card. */
 bool read_card(const uint8_t *word, size_t length, uint8_t *code);
+
+/* A whole word that is a foundation: a suit, a dash, and the value of the highest card that is home, or 0. */
+bool read_home(const uint8_t *word, size_t length, uint8_t *suit, uint8_t *value);
 
 #endif

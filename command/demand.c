@@ -111,13 +111,9 @@ bool demand_allows(const struct answer *x, const struct answer *y, struct said *
     return true;
 }
 
-/* Won tells most, then exhausted; the others stopped early. */
+/* Won tells most, then exhausted; the others are open. */
 static int worth(const struct answer *a) {
     return answer_won(a) ? 2 : answer_exhausted(a) ? 1 : 0;
-}
-
-static bool larger(const struct answer *x, const struct answer *y) {
-    return x->budget >= y->budget && x->capacity >= y->capacity && (x->budget > y->budget || x->capacity > y->capacity);
 }
 
 static int by_worth(const struct answer *better, int which, struct said *why) {
@@ -126,17 +122,16 @@ static int by_worth(const struct answer *better, int which, struct said *why) {
     return which;
 }
 
-/* Of two that stopped early. */
-static int by_reach(const struct answer *x, const struct answer *y, struct said *why) {
-    if (larger(x, y) || larger(y, x)) {
-        say(why, "both stopped early, and its budget and memory are the larger");
-        return larger(x, y) ? FIRST : SECOND;
-    }
-    if (x->pops != y->pops) {
-        say(why, "both stopped early, neither has more of both budget and memory, and it looked at more boards");
-        return x->pops > y->pops ? FIRST : SECOND;
-    }
-    return EITHER;
+/* Two true answers that are won have one list; of two lists that both win, the shorter. */
+static int by_moves(const struct answer *x, const struct answer *y, struct said *why) {
+    say(why, "both lists win, and its list is the shorter");
+    return x->moves < y->moves ? FIRST : SECOND;
+}
+
+/* The run is one, so whoever took more boards knows more (T4). */
+static int by_boards(const struct answer *x, const struct answer *y, struct said *why) {
+    say(why, "both are open, and it looked at more boards");
+    return x->pops > y->pops ? FIRST : SECOND;
 }
 
 int demand_chooses(const struct answer *x, const struct answer *y, struct said *why) {
@@ -144,14 +139,16 @@ int demand_chooses(const struct answer *x, const struct answer *y, struct said *
         bool first = worth(x) > worth(y);
         return by_worth(first ? x : y, first ? FIRST : SECOND, why);
     }
-    int choice = worth(x) == 0 ? by_reach(x, y, why) : EITHER;
-    if (choice != EITHER) {
-        return choice;
+    if (answer_won(x) && x->moves != y->moves) {
+        return by_moves(x, y, why);
+    }
+    if (answer_open(x) && x->pops != y->pops) {
+        return by_boards(x, y, why);
     }
     if (answer_best(x) != answer_best(y)) {
-        say(why, "neither looked further, and it brings a best line");
+        say(why, "both stopped at the same board, and it brings a best line");
         return answer_best(x) ? FIRST : SECOND;
     }
-    say(why, same_answer(x, y) ? "they agree in every number and move" : "neither looked further");
+    say(why, same_answer(x, y) ? "they agree in every number and move" : answer_won(x) ? "both lists win" : "both stopped at the same board");
     return EITHER;
 }

@@ -10,7 +10,8 @@
 /* Whether both answers can be right, given that each was checked and the boards are the same; `why` says why not. */
 bool demand_allows(const struct answer *x, const struct answer *y, struct said *why);
 
-/* Which of two that can both be right tells more: 0, 1, or 2 for either; `why` says why. */
+/* Which of two answers to one board tells more: 0, 1, or 2 for either; `why` says why. Won goes before all, exhausted before what is open,
+ * more boards before fewer, a best line before none. */
 int demand_chooses(const struct answer *x, const struct answer *y, struct said *why);
 
 #endif

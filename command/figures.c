@@ -2,13 +2,24 @@
 
 #include <stdio.h>
 
+#include "corbelnib_says.h"
 #include "say.h"
+#include "version.h"
 
-#define ANSWERS 7
-#define LENGTHS 201 /* of won lists: 0 to 200 moves */
 #define COLUMNS 80
 #define INDENT 12
 #define MARKS 58 /* for the most */
+
+#define BRIEFLY(name, number, brief, words) {number, brief},
+const struct answered answers[ANSWERS] = {CORBELNIB_ANSWERS(BRIEFLY)};
+
+size_t deals_on(const struct sheet *sheet) {
+    size_t deals = 0;
+    for (size_t deal = 1; deal <= CORBELNIB_NUMBER; deal++) {
+        deals += sheet_covers(sheet, deal);
+    }
+    return deals;
+}
 
 /* The deals as runs. */
 static void show_deals(const struct sheet *sheet, size_t deals) {
@@ -37,20 +48,10 @@ static void show_deals(const struct sheet *sheet, size_t deals) {
 }
 
 static void show_answers(const struct sheet *sheet, size_t deals) {
-    static const struct {
-        int number;
-        const char *means;
-    } answers[ANSWERS] = {{0, "won"},
-                          {1, "budget used up, a list to the best board"},
-                          {2, "exhausted, a list to the best board"},
-                          {3, "budget used up, no list"},
-                          {4, "exhausted, no list"},
-                          {5, "budget used up, the best list ends won"},
-                          {23, "out of nodes"}};
     printf("\n  answer                                         deals\n");
     for (size_t k = 0; k < ANSWERS; k++) {
         uint64_t count = sheet->word[CORBELNIB_SHEET_ANSWERS + k];
-        printf("  %2d  %-40s%8s", answers[k].number, answers[k].means, grouped(count).text);
+        printf("  %2u  %-40s%8s", answers[k].number, answers[k].brief, grouped(count).text);
         if (deals > 0) {
             printf("  %5.1f %%", 100.0 * (double)count / (double)deals);
         }
@@ -123,11 +124,9 @@ static void show_histogram(const struct sheet *sheet) {
 }
 
 void figures_show(const struct sheet *sheet) {
-    size_t deals = 0;
-    for (size_t deal = 1; deal <= CORBELNIB_NUMBER; deal++) {
-        deals += sheet_covers(sheet, deal);
-    }
+    size_t deals = deals_on(sheet);
     uint64_t wins = sheet->word[CORBELNIB_SHEET_ANSWERS], pops = sheet->word[CORBELNIB_SHEET_POPS];
+    printf("%s", is_proved() ? "" : "  NOT PROVED\n");
     printf("  settings  budget %s, %s nodes, %s\n", grouped(sheet->word[CORBELNIB_SHEET_BUDGET]).text,
            grouped(sheet->word[CORBELNIB_SHEET_CAPACITY]).text, sheet->word[CORBELNIB_SHEET_FLAG] ? "partial lists" : "no partial lists");
     show_deals(sheet, deals);

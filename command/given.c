@@ -4,8 +4,10 @@
 
 #include "amount.h"
 #include "blame.h"
+#include "hint.h"
 #include "input.h"
 #include "text.h"
+#include "version.h"
 
 static bool take_text(const uint8_t *bytes, size_t length, struct given *given, struct refusal *refusal) {
     struct layout layout;
@@ -62,7 +64,12 @@ bool given_bytes(const uint8_t *bytes, size_t length, struct given *given, struc
         return take_record(bytes, given, refusal);
     }
     bool taken = take_image(bytes, length, given, refusal);
-    if (refusal->number == CORBELNIB_WRONG_LENGTH) {
+    struct said meant = {0};
+    if (refusal->number == CORBELNIB_WRONG_LENGTH && hint_bytes(bytes, length, end, &meant)) {
+        given->form = FORM_TEXT;
+        refusal->number = NO_REFUSAL;
+        refusal->words = meant;
+    } else if (refusal->number == CORBELNIB_WRONG_LENGTH) {
         /* it may have been meant as a text */
         say(&refusal->words, " It was taken for an image because byte %zu is %u, which stands in no text.", end, bytes[end]);
     }
@@ -90,6 +97,7 @@ int given_read(const char *word, struct given *given, struct refusal *refusal) {
         return given_hand(hand, given, refusal) ? STATUS_DONE : STATUS_REFUSED;
     }
     struct input input;
+    input_prompt(word, "a board");
     int status = input_read(word, INPUT_MOST, &input, &refusal->words);
     if (status == STATUS_DONE) {
         status = given_bytes(input.bytes, input.length, given, refusal) ? STATUS_DONE : STATUS_REFUSED;
@@ -106,4 +114,5 @@ void say_given(struct said *said, const struct given *given) {
         const char *from = strcmp(given->name, input_name("-")) == 0 ? "from" : "in";
         say(said, "The %s %s %s", form_name(given->form), from, given->name);
     }
+    say(said, "%s", is_proved() ? "" : " (NOT PROVED)");
 }

@@ -1,12 +1,17 @@
+#define _POSIX_C_SOURCE 200809L
+
 #include "input.h"
 
 #include <errno.h>
 #include <stdio.h>
 #include <stdlib.h>
 #include <string.h>
+#include <unistd.h>
+
+#include "utf8.h"
 
 const char *input_name(const char *name) {
-    return strcmp(name, "-") == 0 ? "standard input" : name;
+    return strcmp(name, "-") == 0 ? "standard input" : shown_name(name);
 }
 
 void input_free(struct input *input) {
@@ -34,6 +39,12 @@ static int fill(FILE *file, size_t most, struct input *input, struct said *why) 
         return STATUS_REFUSED;
     }
     return STATUS_DONE;
+}
+
+void input_prompt(const char *name, const char *what) {
+    if (strcmp(name, "-") == 0 && isatty(STDIN_FILENO)) {
+        fprintf(stderr, "(%s is read from this terminal; Ctrl-D on a line of its own ends it)\n", what);
+    }
 }
 
 int input_read(const char *name, size_t most, struct input *input, struct said *why) {

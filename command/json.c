@@ -10,29 +10,6 @@
 /* An answer has 16 names, and each is looked for among those before it. */
 #define NAMES_MOST 64
 
-void json_text(const char *text) {
-    putchar('"');
-    for (; *text; text++) {
-        unsigned char c = (unsigned char)*text;
-        if (c == '"' || c == '\\') {
-            printf("\\%c", c);
-        } else if (c < ' ') {
-            printf("\\u%04x", c);
-        } else {
-            putchar(c);
-        }
-    }
-    putchar('"');
-}
-
-void json_hex(const uint8_t *bytes, size_t length) {
-    putchar('"');
-    for (size_t i = 0; i < length; i++) {
-        printf("%02x", bytes[i]);
-    }
-    putchar('"');
-}
-
 /* Every value takes a byte of the input at least, and every text no more bytes than stand there: room for all is lent at the start. */
 struct reader {
     const uint8_t *bytes;

@@ -1,4 +1,4 @@
-/* JSON: what is written for programs, and a strict reader of it. */
+/* A strict reader of JSON. Its writer is emit.h. */
 #ifndef COMMAND_JSON_H
 #define COMMAND_JSON_H
 
@@ -7,12 +7,6 @@
 #include <stdint.h>
 
 #include "say.h"
-
-/* Prints a text in quotation marks. */
-void json_text(const char *text);
-
-/* Prints bytes in hexadecimal, in quotation marks. */
-void json_hex(const uint8_t *bytes, size_t length);
 
 enum json_kind { JSON_NULL, JSON_FALSE, JSON_TRUE, JSON_NUMBER, JSON_TEXT, JSON_ARRAY, JSON_OBJECT };
 

@@ -20,6 +20,7 @@ struct layout {
     enum form form;
     uint8_t cells[CELLS], homes[SUITS], counts[COLUMNS];
     uint8_t cards[COLUMNS][LAYOUT_ROOM];
+    bool drawn; /* a text in rows, each a line below the one before */
     size_t cells_line, homes_line, lines[COLUMNS]; /* of a text, counted from 1 */
 };
 

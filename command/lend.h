@@ -11,12 +11,10 @@
 /* What a controller has. */
 #define MEMORY_USUAL ((size_t)512 * 1024 * 1024)
 
+/* One block, carved as include/corbelnib.h does it. */
 struct scratch {
-    size_t capacity;
-    uint32_t *nodes;
-    uint64_t *heap;
-    uint64_t *keys;
-    uint8_t *costs;
+    void *block;
+    struct corbelnib_scratch parts;
 };
 
 /* False if there is not so much memory; nothing has to be taken back then. */
@@ -36,5 +34,8 @@ struct verdict {
 
 /* Judges a board with the scratch that was lent. */
 void judge_with(const uint8_t *board, const struct settings *settings, struct scratch *scratch, struct verdict *verdict);
+
+/* What the same search says where no best line is allowed: the flag is asked at its end alone (search/specs/Solve.antt, `answer`). */
+void leave_line_out(struct verdict *verdict);
 
 #endif

@@ -3,8 +3,12 @@
 #include <stdlib.h>
 #include <string.h>
 
-static bool is_space(uint8_t byte) {
-    return byte == ' ' || byte == '\t' || byte == '\n' || byte == '\r';
+#include "frame.h"
+#include "utf8.h"
+
+/* The bytes of white space of any kind; 0 if there is none. */
+static size_t gap_length(const uint8_t *at, const uint8_t *end) {
+    return at < end && (*at == '\n' || *at == '\r') ? 1 : space_length(at, (size_t)(end - at));
 }
 
 /* A word of a text: where it begins, and its length, which is 0 behind the last one. */
@@ -14,11 +18,11 @@ struct word {
 };
 
 static struct word next_word(const uint8_t *at, const uint8_t *end) {
-    while (at < end && is_space(*at)) {
-        at++;
+    for (size_t gap; (gap = gap_length(at, end)) > 0;) {
+        at += gap;
     }
     struct word word = {at, 0};
-    while (at < end && !is_space(*at)) {
+    while (at < end && !gap_length(at, end)) {
         at++;
         word.length++;
     }
@@ -36,15 +40,18 @@ static struct word word_of(const uint8_t *text, size_t length, size_t place) {
 
 /* Line and character of a place, counted from 1. */
 static void say_place(struct said *said, const uint8_t *text, const uint8_t *place) {
-    size_t line = 1;
-    const uint8_t *start = text;
+    size_t line = 1, character = 1;
     for (const uint8_t *at = text; at < place; at++) {
-        if (*at == '\n') {
-            line++;
-            start = at + 1;
-        }
+        bool goes_on = (*at & 0xc0) == 0x80; /* with a character of UTF-8 */
+        line += *at == '\n';
+        character = *at == '\n' ? 1 : character + !goes_on;
     }
-    say(said, " Line %zu, character %zu: ", line, (size_t)(place - start) + 1);
+    say(said, " Line %zu, character %zu: ", line, character);
+}
+
+/* Cells, home and counts may be written in capitals. */
+static uint8_t folded(uint8_t c) {
+    return (c >= 'A' && c <= 'H') || c == 'V' ? (uint8_t)(c - 'A' + 'a') : c;
 }
 
 /* The words with one space between two, as the library reads them. Hands back their length. */
@@ -55,8 +62,9 @@ static size_t tidy(const uint8_t *text, size_t length, uint8_t *out) {
         if (written) {
             out[written++] = ' ';
         }
-        memcpy(out + written, word.at, word.length);
-        written += word.length;
+        for (size_t i = 0; i < word.length; i++) {
+            out[written++] = folded(word.at[i]);
+        }
     }
     return written;
 }
@@ -99,7 +107,8 @@ static void blame_text(const uint8_t *text, size_t length, size_t place, struct 
     size_t in_word = (size_t)(at - word.at);
     say_place(said, text, at);
     if (in_word < word.length) {
-        say_quoted(said, at, 1);
+        size_t bytes = utf8_length(at, (size_t)(word.at + word.length - at));
+        say_quoted(said, at, bytes ? bytes : 1);
     } else {
         say(said, "the move ends");
     }
@@ -224,6 +233,9 @@ bool line_play(const uint8_t *board, const uint8_t *text, size_t length, struct 
     memset(played, 0, sizeof *played);
     refusal->number = NO_REFUSAL;
     refusal->words.length = 0;
+    if (length > 0) {
+        frame_line(&text, &length);
+    }
     bool numbers = length > 0 && memchr(text, ',', length);
     return numbers ? numbers_play(board, text, length, played, refusal) : paper_play(board, text, length, played, refusal);
 }

@@ -3,22 +3,20 @@
 #include <stdio.h>
 #include <string.h>
 
-#include "json.h"
+#include "emit.h"
+#include "fold.h"
 #include "moves.h"
 #include "version.h"
 
 #define MOVES_A_ROW 10
 
-/* Prints a line on paper. */
-static void fold_line(const uint8_t *text, size_t length) {
+void say_folded(struct said *said, const uint8_t *text, size_t length) {
     size_t moves = 0;
     for (size_t i = 0; i < length; i++) {
         bool ends = text[i] == ' ' && ++moves % MOVES_A_ROW == 0;
-        putchar(ends ? '\n' : text[i]);
+        say(said, "%c", ends ? '\n' : text[i]);
     }
-    if (length) {
-        putchar('\n');
-    }
+    say(said, length ? "\n" : "");
 }
 
 bool brings_list(uint8_t answer) {
@@ -84,6 +82,35 @@ static void print_moves(const uint8_t *start, const struct verdict *verdict, con
     }
 }
 
+/* Where a card comes back from home there is no line on paper, but records are read as well. */
+static void print_records(const struct verdict *verdict) {
+    for (size_t i = 0; i < verdict->moves; i++) {
+        const uint8_t *record = verdict->list + CORBELNIB_MOVE * i;
+        printf("%u,%u,%u,%u,%u\n", record[0], record[1], record[2], record[3], record[4]);
+    }
+}
+
+static void print_line(const uint8_t *board, const struct verdict *verdict, const struct report *report) {
+    uint8_t text[CORBELNIB_TEXT];
+    size_t length;
+    uint8_t number = corbelnib_write_line(board, CORBELNIB_BOARD, verdict->list, CORBELNIB_MOVE * verdict->moves, text, sizeof text, &length);
+    if (number == CORBELNIB_DONE) {
+        struct said line = {0};
+        say_folded(&line, text, length);
+        printf("%s", line.text);
+    } else if (report->line) {
+        print_records(verdict);
+    } else {
+        printf("Move %zu cannot be written on paper: %s (%u) The moves in words:\n\n", length + 1, refusal_words(number), number);
+    }
+    if (!report->line && (number != CORBELNIB_DONE || report->moves || report->picture)) {
+        if (number == CORBELNIB_DONE) {
+            putchar('\n');
+        }
+        print_moves(board, verdict, report);
+    }
+}
+
 void report_words(const struct given *given, const struct settings *settings, const struct verdict *verdict,
                   const struct report *report) {
     struct said said = {0};
@@ -91,98 +118,95 @@ void report_words(const struct given *given, const struct settings *settings, co
     say(&said, ": ");
     say_answer(&said, verdict);
     say_search(&said, settings, verdict);
-    puts(said.text);
-    if (verdict->moves == 0) {
-        return;
+    say(&said, "\n");
+    print_folded(report->line ? stderr : stdout, said.text);
+    if (verdict->moves > 0 && !report->line) {
+        putchar('\n');
     }
-    uint8_t text[CORBELNIB_TEXT];
-    size_t length;
-    uint8_t number = corbelnib_write_line(given->board, CORBELNIB_BOARD, verdict->list, CORBELNIB_MOVE * verdict->moves, text,
-                                          sizeof text, &length);
-    putchar('\n');
-    if (number != CORBELNIB_DONE) {
-        printf("Move %zu cannot be written on paper: %s (%u) The moves in words:\n\n", length + 1, refusal_words(number), number);
-    } else {
-        fold_line(text, length);
-    }
-    if (number != CORBELNIB_DONE || report->moves || report->picture) {
-        if (number == CORBELNIB_DONE) {
-            putchar('\n');
-        }
-        print_moves(given->board, verdict, report);
+    if (verdict->moves > 0) {
+        print_line(given->board, verdict, report);
     }
 }
 
-static void json_line(const uint8_t *board, const struct verdict *verdict) {
+void json_line(struct object *object, const uint8_t *board, const uint8_t *list, size_t moves) {
     uint8_t text[CORBELNIB_TEXT];
     size_t length;
-    uint8_t number = corbelnib_write_line(board, CORBELNIB_BOARD, verdict->list, CORBELNIB_MOVE * verdict->moves, text, sizeof text,
-                                          &length);
-    if (number == CORBELNIB_DONE && brings_list(verdict->told)) {
+    uint8_t number = corbelnib_write_line(board, CORBELNIB_BOARD, list, CORBELNIB_MOVE * moves, text, sizeof text, &length);
+    object_member(object, "line");
+    if (number == CORBELNIB_DONE) {
         printf("\"%.*s\"", (int)length, (const char *)text);
     } else {
         printf("null");
     }
 }
 
-/* Prints the moves and leaves the last board in `board`. */
-static void json_moves(uint8_t *board, const struct verdict *verdict) {
-    printf("  \"list\": [");
-    for (size_t i = 0; i < verdict->moves; i++) {
-        const uint8_t *record = verdict->list + CORBELNIB_MOVE * i;
+void json_moves(struct object *object, uint8_t *board, const uint8_t *list, size_t moves) {
+    object_rows(object, "list");
+    for (size_t i = 0; i < moves; i++) {
+        const uint8_t *record = list + CORBELNIB_MOVE * i;
         struct said words = {0};
         char paper[PAPER_MOST];
         bool written = paper_move(board, record, paper);
         say_move(&words, board, record);
         play_move(board, record);
-        printf("%s\n    {\"record\": [%u, %u, %u, %u, %u], \"words\": \"%s\", \"paper\": ", i ? "," : "", record[0], record[1],
-               record[2], record[3], record[4], words.text);
+        object_row(object);
+        printf("{\"record\": [%u, %u, %u, %u, %u], \"words\": \"%s\", \"paper\": ", record[0], record[1], record[2], record[3], record[4],
+               words.text);
         printf(written ? "\"%s\"}" : "null}", paper);
     }
-    printf("%s],\n", verdict->moves ? "\n  " : "");
+    object_rows_end(object);
 }
 
-static void json_final(const uint8_t *board) {
+void json_final(struct object *object, const uint8_t *board) {
     int64_t heuristic, progress;
     uint8_t token[CORBELNIB_TOKEN];
     size_t length = 0;
     corbelnib_scores(board, CORBELNIB_BOARD, &heuristic, &progress);
     corbelnib_token(board, CORBELNIB_BOARD, token, sizeof token, &length);
+    object_member(object, "final");
     printf("{\"won\": %s, \"progress\": %lld, \"token\": \"%.*s\"}", is_won(board) ? "true" : "false", (long long)progress,
            (int)length, (const char *)token);
 }
 
-static void json_board(const struct given *given) {
+void json_given(struct object *object, const struct given *given) {
     uint64_t signature = 0;
     corbelnib_signature(given->board, sizeof given->board, &signature);
-    printf("  \"version\": \"%s\",\n  \"input\": \"%s\",\n  \"hand\": ", CORBELNIB_VERSION, form_name(given->form));
+    object_text(object, "version", version_told());
+    object_text(object, "input", form_name(given->form));
     if (given->form == FORM_HAND) {
-        printf("%zu", given->hand);
+        object_number(object, "hand", given->hand);
     } else {
-        printf("null");
+        object_text(object, "hand", NULL);
     }
-    printf(",\n  \"board\": ");
-    json_hex(given->board, sizeof given->board);
-    printf(",\n  \"signature\": \"%016llx\",\n", (unsigned long long)signature);
+    object_hex(object, "board", given->board, sizeof given->board);
+    object_member(object, "signature");
+    printf("\"%016llx\"", (unsigned long long)signature);
 }
 
-void report_json(const struct given *given, const struct settings *settings, const struct verdict *verdict) {
+void report_json(const struct given *given, const struct settings *settings, const struct verdict *verdict, bool one_line) {
     uint8_t board[CORBELNIB_BOARD];
+    struct object object;
     memcpy(board, given->board, sizeof board);
-    printf("{\n");
-    json_board(given);
-    printf("  \"budget\": %zu,\n  \"memory\": %zu,\n  \"capacity\": %zu,\n  \"partial\": %s,\n", settings->budget, settings->memory,
-           settings->capacity, settings->partial ? "true" : "false");
-    printf("  \"answer\": %u,\n  \"meaning\": \"%s\",\n  \"pops\": %zu,\n  \"moves\": %zu,\n  \"line\": ", verdict->told,
-           answer_words(verdict->told), verdict->pops, verdict->moves);
-    json_line(board, verdict);
-    printf(",\n");
-    json_moves(board, verdict);
-    printf("  \"final\": ");
+    object_open(&object, one_line);
+    json_given(&object, given);
+    object_number(&object, "budget", settings->budget);
+    object_number(&object, "memory", settings->memory);
+    object_number(&object, "capacity", settings->capacity);
+    object_flag(&object, "partial", settings->partial);
+    object_number(&object, "answer", verdict->told);
+    object_text(&object, "meaning", answer_words(verdict->told));
+    object_number(&object, "pops", verdict->pops);
+    object_number(&object, "moves", verdict->moves);
     if (brings_list(verdict->told)) {
-        json_final(board);
+        json_line(&object, board, verdict->list, verdict->moves);
     } else {
-        printf("null");
+        object_text(&object, "line", NULL);
     }
-    printf("\n}\n");
+    json_moves(&object, board, verdict->list, verdict->moves);
+    if (brings_list(verdict->told)) {
+        json_final(&object, board);
+    } else {
+        object_text(&object, "final", NULL);
+    }
+    object_close(&object);
 }

@@ -1,8 +1,12 @@
 #include "say.h"
 
 #include <stdarg.h>
-#include <stdbool.h>
 #include <stdio.h>
+#include <string.h>
+
+#include "emit.h"
+#include "fold.h"
+#include "utf8.h"
 
 /* No more of a wrong word is repeated than shows which one it is. */
 #define QUOTED_MOST 24
@@ -41,20 +45,34 @@ void say_count(struct said *said, size_t count, const char *one, const char *man
 }
 
 void say_quoted(struct said *said, const unsigned char *word, size_t length) {
-    say(said, "\"");
-    for (size_t i = 0; i < length && i < QUOTED_MOST; i++) {
-        bool plain = word[i] >= ' ' && word[i] <= '~';
-        say(said, plain ? "%c" : "\\x%02x", word[i]);
+    size_t most = length;
+    if (length > QUOTED_MOST) {
+        most = QUOTED_MOST;
+        /* no character is cut in two */
+        while (most > 0 && (word[most] & 0xc0) == 0x80) {
+            most--;
+        }
     }
-    say(said, length > QUOTED_MOST ? "..\"" : "\"");
+    say(said, "\"");
+    say_shown(said, word, most);
+    say(said, length > most ? "..\"" : "\"");
 }
 
 int complain(int status, const char *who, const char *format, ...) {
-    fprintf(stderr, "corbelnib%s%s: ", who ? " " : "", who ? who : "");
+    struct said raw = {0}, said = {0};
     va_list words;
     va_start(words, format);
-    vfprintf(stderr, format, words);
+    vsnprintf(raw.text, sizeof raw.text, format, words);
     va_end(words);
+    /* of an output that failed nothing can be told there */
+    if (failures_are_json() && status != STATUS_NO_OUTPUT) {
+        failure_json(who, NULL, -1, raw.text);
+        return status;
+    }
+    say(&said, "corbelnib%s%s: ", who ? " " : "", who ? who : "");
+    /* a name may be among the words */
+    say_shown(&said, (const unsigned char *)raw.text, strlen(raw.text));
+    print_folded(stderr, said.text);
     fputc('\n', stderr);
     return status;
 }

@@ -14,7 +14,8 @@ enum status {
     STATUS_NO_INPUT = 66,
     STATUS_NO_MEMORY = 71,
     STATUS_NO_FILE = 73, /* a file cannot be made */
-    STATUS_NO_OUTPUT = 74
+    STATUS_NO_OUTPUT = 74,
+    STATUS_STOPPED = 130 /* by Ctrl-C, as shells count it */
 };
 
 #ifdef __GNUC__
@@ -42,10 +43,10 @@ void say_number(struct said *said, size_t number);
 /* "1 move", "98 moves". */
 void say_count(struct said *said, size_t count, const char *one, const char *many);
 
-/* A word from outside in quotation marks: printable characters as they are, others as \xNN, no more than a few. */
+/* A word from outside in quotation marks, as it may be shown (utf8.h), and no more than a few characters of it. */
 void say_quoted(struct said *said, const unsigned char *word, size_t length);
 
-/* Prints "corbelnib WHO: .." on standard error and hands the status back. */
+/* Prints "corbelnib WHO: .." on standard error, or an object on standard output where failures are JSON (emit.h), and hands the status back. */
 int complain(int status, const char *who, const char *format, ...) SAYS(3, 4);
 
 #endif

@@ -7,19 +7,22 @@
 #include <unistd.h>
 
 #include "amount.h"
+#include "blame_sheet.h"
 #include "commands.h"
 #include "figures.h"
 #include "input.h"
 #include "lend.h"
+#include "listing.h"
 #include "options.h"
 #include "say.h"
 #include "sheet.h"
 #include "told.h"
 
 const char help_season[] =
-    "usage: corbelnib season run FIRST LAST [--budget N] [--memory SIZE | --nodes N] [--partial] [-o FILE] [--quiet]\n"
-    "       corbelnib season add [-o FILE] FILE..\n"
-    "       corbelnib season show FILE..\n"
+    "usage: corbelnib season run FIRST LAST [--budget N] [--memory SIZE | --nodes N] [--partial] [-o FILE] [--list FILE]\n"
+    "                            [--quiet] [--json]\n"
+    "       corbelnib season add [-o FILE] [--json] FILE..\n"
+    "       corbelnib season show [--json | --csv] FILE..\n"
     "\n"
     "Sheets of figures over many deals (docs/SEASON.md): how many were won, by how many moves, and what it took.\n"
     "\n"
@@ -29,17 +32,23 @@ const char help_season[] =
     "common. show says in words what stands on each sheet. A FILE that is read may be -, standard input. A FILE that is\n"
     "written gets its name when it is whole.\n"
     "\n"
-    "  --budget N     boards that are looked at in a deal, at most 1,000,000; 100,000 if it is not given\n"
+    "  --budget N     boards that are looked at in a deal, at most 1,000,000; 100,000 if it is not given (`judge`\n"
+    "                 has 1,000,000: a season is many deals)\n"
     "  --memory SIZE  bytes, or with K, M or G, for the search. A board takes 38 bytes\n"
     "  --nodes N      the same by boards that it holds; 2,500,000 if neither is given, which is 95 million bytes\n"
     "  --partial      where no win is found, a line to the best board seen is asked for\n"
     "  --quiet        does not tell how far it has come\n"
     "  -o FILE        where the sheet goes\n"
+    "  --list FILE    a line for each deal as it is judged: deal,answer,pops,moves (of the won list; else nothing)\n"
+    "  --csv          shows a line for each sheet, under one that names the figures\n"
+    "  --json         shows an object, and of several sheets one on a line each, in their order; a failure of run, add or\n"
+    "                 show is an object on standard output\n"
     "\n"
     "examples: corbelnib season run 1 100 --budget 20000 -o a.sheet\n"
     "          corbelnib season run 101 200 --budget 20000 -o b.sheet\n"
     "          corbelnib season add -o both.sheet a.sheet b.sheet\n"
     "          corbelnib season show both.sheet\n"
+    "          corbelnib season run 1 100 --budget 20000 -o a.sheet --list a.csv\n"
     "\n"
     "status: 0 done, 2 refused, 64 wrong use, 66 no such file, 71 no memory, 73 FILE cannot be made, 74 the output failed\n";
 
@@ -104,9 +113,10 @@ static void tell(struct progress *p, size_t done) {
 /* ---- run */
 
 struct asked {
-    const char *budget_word, *memory_word, *nodes_word, *output;
+    const char *budget_word, *memory_word, *nodes_word, *output, *list;
     size_t first, last, budget, nodes;
-    bool partial, quiet;
+    bool partial, quiet, json; /* of run itself nothing is JSON but a failure (main.c) */
+    FILE *listing;
 };
 
 /* A refusal, with the word that it is about. */
@@ -117,14 +127,12 @@ static int refused(const struct asked *a, const struct wordlist *words, uint8_t 
                                                         : words->word[first_is_one];
     struct refusal refusal = {0};
     refuse(&refusal, number);
-    tell_refusal(runs, about, &refusal, false);
+    tell_refusal(runs, about, &refusal);
     return STATUS_REFUSED;
 }
 
 static uint8_t judged(const struct asked *a, struct scratch *s, size_t first, size_t last, struct sheet *sheet) {
-    size_t n = s->capacity;
-    return corbelnib_season(first, last, a->budget, a->partial, s->nodes, CORBELNIB_NODES(n), s->heap, CORBELNIB_HEAP(n), s->keys,
-                            CORBELNIB_KEYS(n), s->costs, CORBELNIB_COSTS(n), sheet->word, CORBELNIB_SHEET);
+    return corbelnib_season(first, last, a->budget, a->partial, CORBELNIB_SCRATCH(s->parts), sheet->word, CORBELNIB_SHEET);
 }
 
 /* Deal by deal: the sheet of each is added to that of those before it. Hands back the library's number. */
@@ -133,6 +141,9 @@ static uint8_t collect(const struct asked *a, struct scratch *s, struct sheet *s
     size_t high = a->first < a->last ? a->last : a->first;
     /* turned round: the sheet of no deal with these settings, and every refusal; or of the only deal, and then this is all */
     uint8_t told = judged(a, s, high, low, sheet);
+    if (told == CORBELNIB_DONE && a->first == a->last) {
+        listing_put(a->listing, sheet, low);
+    }
     if (told != CORBELNIB_DONE || a->first >= a->last) {
         return told;
     }
@@ -143,6 +154,7 @@ static uint8_t collect(const struct asked *a, struct scratch *s, struct sheet *s
         struct sheet one;
         told = judged(a, s, n, n, &one);
         if (told == CORBELNIB_DONE) {
+            listing_put(a->listing, &one, n);
             told = sheet_add(sheet, &one);
         }
         tell(&p, n - low + 1);
@@ -171,6 +183,23 @@ static int settle(struct asked *a, const struct wordlist *words) {
     return status == STATUS_DONE ? sheet_writable(runs, a->output) : status;
 }
 
+/* Judges all deals and writes what was asked for. */
+static int work(struct asked *a, const struct wordlist *words) {
+    struct scratch scratch;
+    struct sheet sheet;
+    if (!lend(&scratch, a->nodes)) {
+        return complain(STATUS_NO_MEMORY, runs, "this machine does not hand out memory for %s boards", grouped(a->nodes).text);
+    }
+    int status = listing_open(runs, a->list, &a->listing);
+    if (status == STATUS_DONE) {
+        uint8_t told = collect(a, &scratch, &sheet);
+        status = listing_close(runs, a->list, a->listing);
+        status = told != CORBELNIB_DONE ? refused(a, words, told) : status == STATUS_DONE ? sheet_write(runs, a->output, &sheet) : status;
+    }
+    take_back(&scratch);
+    return status;
+}
+
 static int run(int argc, char **argv) {
     struct asked a = {.budget = BUDGET_USUAL, .nodes = NODES_USUAL};
     const struct option options[] = {{"--budget", NULL, &a.budget_word},
@@ -178,6 +207,8 @@ static int run(int argc, char **argv) {
                                      {"--nodes", NULL, &a.nodes_word},
                                      {"--partial", &a.partial, NULL},
                                      {"--quiet", &a.quiet, NULL},
+                                     {"--list", NULL, &a.list},
+                                     {"--json", &a.json, NULL},
                                      {"-o", NULL, &a.output},
                                      {0}};
     struct wordlist words;
@@ -185,17 +216,7 @@ static int run(int argc, char **argv) {
     if (status == STATUS_DONE) {
         status = settle(&a, &words);
     }
-    if (status != STATUS_DONE) {
-        return status;
-    }
-    struct scratch scratch;
-    struct sheet sheet;
-    if (!lend(&scratch, a.nodes)) {
-        return complain(STATUS_NO_MEMORY, runs, "this machine does not hand out memory for %s boards", grouped(a.nodes).text);
-    }
-    uint8_t told = collect(&a, &scratch, &sheet);
-    take_back(&scratch);
-    return told == CORBELNIB_DONE ? sheet_write(runs, a.output, &sheet) : refused(&a, &words, told);
+    return status == STATUS_DONE ? work(&a, &words) : status;
 }
 
 /* ---- add */
@@ -203,8 +224,8 @@ static int run(int argc, char **argv) {
 /* Begins the words of a refused sheet. */
 static void refuse_sheet(struct refusal *refusal, uint8_t number, const struct sheet *sheet) {
     refuse(refusal, number);
-    if (number == CORBELNIB_WRONG_SHEET && sheet->word[CORBELNIB_SHEET_BUDGET] > CORBELNIB_BUDGET) {
-        say(&refusal->words, " Its budget is above %s.", grouped(CORBELNIB_BUDGET).text);
+    if (number == CORBELNIB_WRONG_SHEET) {
+        blame_sheet(sheet, &refusal->words);
     }
 }
 
@@ -282,13 +303,14 @@ static int add_file(const struct wordlist *files, size_t which, struct sheet *to
     } else if (number == CORBELNIB_COMMON_DEAL) {
         say_common(&refusal.words, files, which, &sheet, total);
     }
-    tell_refusal(adds, input_name(name), &refusal, false);
+    tell_refusal(adds, input_name(name), &refusal);
     return STATUS_REFUSED;
 }
 
 static int add(int argc, char **argv) {
     const char *output = NULL;
-    const struct option options[] = {{"-o", NULL, &output}, {0}};
+    bool json = false; /* a failure is, and nothing else (main.c) */
+    const struct option options[] = {{"-o", NULL, &output}, {"--json", &json, NULL}, {0}};
     struct wordlist files;
     struct sheet total;
     int status = part_files(adds, argc, argv, options, &files);
@@ -315,31 +337,54 @@ static int read_good(const char *name, struct sheet *sheet) {
     if (number != CORBELNIB_DONE) {
         struct refusal refusal = {0};
         refuse_sheet(&refusal, number, sheet);
-        tell_refusal(shows, input_name(name), &refusal, false);
+        tell_refusal(shows, input_name(name), &refusal);
         return STATUS_REFUSED;
     }
     return STATUS_DONE;
 }
 
+/* How sheets are shown. */
+struct shown {
+    bool json, csv, several;
+    size_t count; /* of those before */
+};
+
+static void show_one(struct shown *shown, const char *name, const struct sheet *sheet) {
+    if (shown->json) {
+        figures_json(name, sheet, shown->several);
+    } else if (shown->csv) {
+        figures_csv(name, sheet);
+    } else {
+        printf("%s%s\n", shown->count ? "\n" : "", name);
+        figures_show(sheet);
+    }
+    shown->count++;
+}
+
 /* Every file that can be shown is; the last that cannot gives the status. */
 static int show(int argc, char **argv) {
-    const struct option options[] = {{0}};
+    struct shown shown = {0};
+    const struct option options[] = {{"--json", &shown.json, NULL}, {"--csv", &shown.csv, NULL}, {0}};
     struct wordlist files;
     int status = part_files(shows, argc, argv, options, &files);
+    if (status == STATUS_DONE && shown.json && shown.csv) {
+        status = wrong_use(shows, "--json and --csv do not go together");
+    }
     if (status != STATUS_DONE) {
         return status;
     }
-    const char *before = "";
+    shown.several = files.count > 1;
+    if (shown.csv) {
+        figures_csv_head();
+    }
     for (size_t i = 0; i < files.count; i++) {
         struct sheet sheet;
         int came = read_good(files.word[i], &sheet);
-        if (came != STATUS_DONE) {
+        if (came == STATUS_DONE) {
+            show_one(&shown, input_name(files.word[i]), &sheet);
+        } else {
             status = came;
-            continue;
         }
-        printf("%s%s\n", before, input_name(files.word[i]));
-        figures_show(&sheet);
-        before = "\n";
     }
     return status;
 }

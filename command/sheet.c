@@ -36,6 +36,7 @@ uint8_t sheet_add(struct sheet *total, const struct sheet *sheet) {
 int sheet_read(const char *who, const char *name, struct sheet *sheet) {
     struct input input;
     struct said why = {0};
+    input_prompt(name, "a sheet");
     int status = input_read(name, INPUT_MOST, &input, &why);
     if (status == STATUS_DONE && input.length != SHEET_BYTES) {
         say(&why, "it has ");

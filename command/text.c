@@ -2,26 +2,30 @@
  * is an empty column (so it does, and a text that ends before its eighth line is not enough for it). `Foundations:` or `Founds:` and
  * `Freecells:` or `FC:` may stand on lines before the last column; of two such lines the later counts. Case does not matter.
  *
+ * Read too: what `corbelnib play` and `--picture` print, suits by their signs, no-break spaces.
+ *
  * Stricter than fc-solve, which passes over what it does not understand: a word that is no card, a fifth cell, a suit twice on a line
  * and anything but blank lines behind the eighth column are mistakes here. It has no comments, so there are none here. */
 #include "text.h"
 
 #include <string.h>
 
+#include "frame.h"
+#include "hint.h"
+#include "picture.h"
+#include "utf8.h"
+
 /* What has been read, and the line that is being read. */
 struct reader {
     const uint8_t *bytes;
     size_t length, at;
     size_t line; /* counted from 1 */
+    uint8_t line_end;
     const uint8_t *next, *end;
     size_t columns, blank; /* columns read; the first blank line among them, or 0 */
     struct layout *layout;
     struct said *why;
 };
-
-static bool is_space(uint8_t byte) {
-    return byte == ' ' || byte == '\t';
-}
 
 static bool in_text(uint8_t byte) {
     bool layout = byte == '\t' || byte == '\n' || byte == '\r';
@@ -39,18 +43,18 @@ size_t text_ends(const uint8_t *bytes, size_t length) {
 }
 
 static void skip_space(struct reader *r) {
-    while (r->next < r->end && is_space(*r->next)) {
-        r->next++;
+    for (size_t length; (length = space_length(r->next, (size_t)(r->end - r->next))) > 0;) {
+        r->next += length;
     }
 }
 
-/* The next line, without its end, which may be that of Windows. False after the last one. */
+/* The next line, without its end, which may be that of Windows, or where there is no other that of old Macs. False after the last one. */
 static bool next_line(struct reader *r) {
     if (r->at >= r->length) {
         return false;
     }
     const uint8_t *start = r->bytes + r->at;
-    const uint8_t *newline = memchr(start, '\n', r->length - r->at);
+    const uint8_t *newline = memchr(start, r->line_end, r->length - r->at);
     r->next = start;
     r->end = newline ? newline : r->bytes + r->length;
     r->at = newline ? (size_t)(newline - r->bytes) + 1 : r->length;
@@ -66,7 +70,7 @@ static bool next_line(struct reader *r) {
 static size_t next_word(struct reader *r, const uint8_t **word) {
     skip_space(r);
     *word = r->next;
-    while (r->next < r->end && !is_space(*r->next)) {
+    while (r->next < r->end && !space_length(r->next, (size_t)(r->end - r->next))) {
         r->next++;
     }
     return (size_t)(r->next - *word);
@@ -139,18 +143,6 @@ static bool read_cells(struct reader *r) {
     return true;
 }
 
-/* A suit, a dash, and the value of the highest card that is home, or 0. */
-static bool read_home(const uint8_t *word, size_t length, uint8_t *suit, uint8_t *value) {
-    if (length < 3 || !read_suit(word[0], suit) || word[1] != '-') {
-        return false;
-    }
-    if (length == 3 && word[2] == '0') {
-        *value = 0;
-        return true;
-    }
-    return read_value(word + 2, length - 2, value) == length - 2;
-}
-
 static bool read_homes(struct reader *r) {
     bool told[SUITS] = {false};
     const uint8_t *word;
@@ -204,13 +196,26 @@ static bool read_line(struct reader *r) {
     return read_column(r);
 }
 
-bool text_read(const uint8_t *bytes, size_t length, struct layout *layout, struct said *why) {
+/* Behind a mark, if there is one, and behind the sentence of `corbelnib play`. */
+static struct reader reader_of(const uint8_t *bytes, size_t length, struct layout *layout, struct said *why) {
     static const uint8_t mark[] = {0xef, 0xbb, 0xbf}; /* with which Windows begins a text */
     bool marked = length >= sizeof mark && memcmp(bytes, mark, sizeof mark) == 0;
-    struct reader r = {bytes, length, marked ? sizeof mark : 0, 0, NULL, NULL, 0, 0, layout, why};
+    struct reader r = {.bytes = bytes, .length = length, .at = marked ? sizeof mark : 0, .layout = layout, .why = why};
+    r.line_end = memchr(bytes, '\n', length) ? '\n' : '\r';
+    size_t board = frame_board(bytes, length, &r.line);
+    r.at = board > r.at ? board : r.at;
+    return r;
+}
+
+bool text_read(const uint8_t *bytes, size_t length, struct layout *layout, struct said *why) {
+    struct reader r = reader_of(bytes, length, layout, why);
     layout_clear(layout, FORM_TEXT);
+    if (picture_begins(bytes + r.at, length - r.at)) {
+        return picture_read(bytes + r.at, length - r.at, r.line, layout, why);
+    }
     while (next_line(&r)) {
         if (!read_line(&r)) {
+            hint_text(bytes, length, why);
             return false;
         }
     }
@@ -218,6 +223,7 @@ bool text_read(const uint8_t *bytes, size_t length, struct layout *layout, struc
         say(why, "line %zu: the text ends after ", r.line + 1);
         say_count(why, r.columns, "column", "columns");
         say(why, "; %d are expected, a line each, and a blank line is an empty column", COLUMNS);
+        hint_text(bytes, length, why);
     }
     return r.columns == COLUMNS;
 }

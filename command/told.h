@@ -23,7 +23,7 @@ struct refusal {
 /* Begins the words of a refusal with its sentence and its number. */
 void refuse(struct refusal *refusal, uint8_t number);
 
-/* Tells a refusal of a board, a text or a setting, on standard error or as JSON on standard output. */
-void tell_refusal(const char *who, const char *name, const struct refusal *refusal, bool json);
+/* Tells a refusal of a board, a text or a setting, on standard error, or on standard output where failures are JSON (emit.h). */
+void tell_refusal(const char *who, const char *name, const struct refusal *refusal);
 
 #endif

@@ -72,10 +72,8 @@ fn main() {
     let text = |path: &Path| std::fs::read_to_string(path).unwrap();
     let write = |file: &str, text: String| std::fs::write(out.join(file), text).unwrap();
     write("common.rs", module(&card, "card"));
-    write(
-        "freecell.rs",
-        module(&board, "board") + &module(&weights, "given"),
-    );
+    write("freecell.rs", module(&board, "board"));
+    write("given.rs", module(&weights, "weights"));
     write("weights.rs", weights_as_calls(&text(&weights)));
     write("solver.rs", calling_weights(&text(&solver)));
     println!("cargo:rustc-env=CORBELNIB_SOLVER={}", solver.display());

@@ -11,34 +11,6 @@
 /* No image of a well-formed board is longer than 71 bytes; a file with more than these is no image, which is 10. */
 #define IMAGE_MOST 1024
 
-struct scratch {
-    size_t capacity;
-    uint32_t *nodes;
-    uint64_t *heap;
-    uint64_t *keys;
-    uint8_t *costs;
-};
-
-static bool lend(struct scratch *s, size_t capacity) {
-    if (capacity > SIZE_MAX / 64) {
-        return false;
-    }
-    s->capacity = capacity;
-    /* one element more, so that no part is empty and malloc hands out no NULL for it */
-    s->nodes = malloc((CORBELNIB_NODES(capacity) + 1) * sizeof *s->nodes);
-    s->heap = malloc((CORBELNIB_HEAP(capacity) + 1) * sizeof *s->heap);
-    s->keys = malloc((CORBELNIB_KEYS(capacity) + 1) * sizeof *s->keys);
-    s->costs = malloc((CORBELNIB_COSTS(capacity) + 1) * sizeof *s->costs);
-    return s->nodes && s->heap && s->keys && s->costs;
-}
-
-static void take_back(struct scratch *s) {
-    free(s->nodes);
-    free(s->heap);
-    free(s->keys);
-    free(s->costs);
-}
-
 static bool number_in(const char *word, size_t *number) {
     char *end;
     unsigned long long n = strtoull(word, &end, 10);
@@ -61,22 +33,20 @@ static int judge(const uint8_t *image, size_t length, size_t budget, size_t capa
         printf("%d\n", refused);
         return EXIT_SUCCESS;
     }
-    struct scratch s = {0};
-    if (!lend(&s, capacity)) {
+    size_t bytes = corbelnib_scratch_bytes(capacity), pops, moves;
+    void *block = capacity > SIZE_MAX / 64 ? NULL : malloc(bytes + 1); /* one more, so that there is a block for no node */
+    if (!block) {
         fprintf(stderr, "no memory for %zu nodes\n", capacity);
-        take_back(&s);
         return EXIT_FAILURE;
     }
-    size_t pops, moves;
-    uint8_t answer = corbelnib_judge(board, sizeof board, budget, partial, s.nodes, CORBELNIB_NODES(capacity), s.heap,
-                                     CORBELNIB_HEAP(capacity), s.keys, CORBELNIB_KEYS(capacity), s.costs,
-                                     CORBELNIB_COSTS(capacity), list, sizeof list, &pops, &moves);
+    struct corbelnib_scratch scratch = corbelnib_carve(block, bytes);
+    uint8_t answer = corbelnib_judge(board, sizeof board, budget, partial, CORBELNIB_SCRATCH(scratch), list, sizeof list, &pops, &moves);
     if (CORBELNIB_IS_ANSWER(answer)) {
         print_list(answer, pops, list, moves);
     } else {
         printf("%d\n", answer);
     }
-    take_back(&s);
+    free(block);
     return EXIT_SUCCESS;
 }
 

@@ -5,9 +5,12 @@
  * nothing else. Stack, measured on aarch64: corbelnib_judge and corbelnib_season 13 KB, corbelnib_candidates 7 KB, every other function under 3 KB
  * (docs/MEMORY.md).
  *
+ * The header is C99, and C++11: it compiles with -std=c99 -pedantic.
+ *
  * What is lent: a pointer and then the number of elements behind it. A pointer points to as many elements as are told and is
  * aligned for its type; where 0 are told it may be NULL. No two lent parts of one call overlap, unless both are only read
- * (`const`). Pointers without a number (`size_t *count`) point to one element. This is all that C cannot have checked; every
+ * (`const`): the board after a move is written to other memory than the board's own (`after` of corbelnib_move, corbelnib_replay and
+ * corbelnib_chain), and one sheet is not both of corbelnib_add. Pointers without a number (`size_t *count`) point to one element. This is all that C cannot have checked; every
  * other value of every argument is examined.
  *
  * A board is CORBELNIB_BOARD (432) bytes: four cells (a card's code, or 255 for none); four foundation counts, clubs,
@@ -38,12 +41,8 @@
 extern "C" {
 #endif
 
-/* The library counts in 64 bits. */
-#ifdef __cplusplus
-static_assert(sizeof(size_t) == 8, "corbelnib wants a size_t of 64 bits");
-#else
-_Static_assert(sizeof(size_t) == 8, "corbelnib wants a size_t of 64 bits");
-#endif
+/* The library counts in 64 bits: where a size_t has not as many, this is an array that cannot be. (C99 has no other way to say it.) */
+typedef char corbelnib_wants_a_size_t_of_64_bits[sizeof(size_t) == 8 ? 1 : -1];
 
 /* Sizes in bytes: a board, a move, the least list buffer (200 moves), the least room for a line on paper, for moves that are listed (836
  * of them), for a token; and how many features there are. */
@@ -108,7 +107,8 @@ static inline struct corbelnib_scratch corbelnib_carve(void *block, size_t bytes
     return s;
 }
 
-/* Every number that a call hands back. In quotation marks: what a table can show to a player. */
+/* Every number that a call hands back. In quotation marks: what a table can show to a player; corbelnib_says.h has words for each of them, as a
+ * function and as a list that programs can take. */
 enum corbelnib_told {
     CORBELNIB_DONE = 0,
 
@@ -325,9 +325,13 @@ size_t corbelnib_capacity(size_t nodes_length, size_t heap_length, size_t keys_l
  * An answer tells in `*pops` how many boards were taken and in `*moves` how many moves the list has (0 where there is none,
  * at most 200), writes the list's moves, five bytes each, to the start of `list` (bytes beyond stay) and leaves every byte of
  * the scratch 0. Two controllers never disagree: on one board no two answers, whatever their budgets and scratch, give two
- * different winning lists, or won and 2 or 4; more budget and scratch keep 0, 2 and 4 as they were. 5 is a best line, as 1 and
+ * different winning lists, or won and 2 or 4; more budget and scratch keep 0, 2 and 4 as they were, for one value of `partial`: of a
+ * search that asks otherwise this says nothing but that a win stays that win. 5 is a best line, as 1 and
  * 2 are: more budget and scratch make 0 of it, 5 with the same list, 23, or, where two boards of the run share a signature, 2
- * with the same list. Refusals, which change nothing: 12 to 15, 20, 21 if `list` has fewer than 1,000 bytes, 22. */
+ * with the same list.
+ *
+ * Clearing the scratch takes its time, however few boards were taken. A table that judges after each touch lends 1 MB (27,594 nodes), not
+ * 512: docs/FOR-TABLES.md has what was measured. Refusals, which change nothing: 12 to 15, 20, 21 if `list` has fewer than 1,000 bytes, 22. */
 uint8_t corbelnib_judge(const uint8_t *board, size_t board_length, size_t budget, uint8_t partial, uint32_t *nodes,
                         size_t nodes_length, uint64_t *heap, size_t heap_length, uint64_t *keys, size_t keys_length,
                         uint8_t *costs, size_t costs_length, uint8_t *list, size_t list_length, size_t *pops,

@@ -118,8 +118,8 @@ int main(int argc, char **argv) {
     for (size_t i = 0; i < count; i++) {
         try_one(&samples[drawn(files)], &accepted);
     }
-    printf("%zu damaged inputs read; accepted: %zu boards, %zu lines, %zu lists of records, %zu answers\n", accepted.inputs, accepted.boards,
-           accepted.lines, accepted.records, accepted.answers);
+    printf("%zu damaged inputs read; accepted: %zu boards, %zu lines, %zu lists of records, %zu solutions, %zu answers, %zu sheets\n", accepted.inputs,
+           accepted.boards, accepted.lines, accepted.records, accepted.solutions, accepted.answers, accepted.sheets);
     for (size_t i = 0; i < files; i++) {
         free(samples[i].bytes);
     }

@@ -2,6 +2,8 @@
 # Beside fc-solve (Debian's package freecell-solver-bin): tests/fc-solve.sh [LAST], hands 1 to LAST, 100 if it is not given.
 #   every hand that make-microsoft-freecell-board prints, with T and with 10 for ten, is read as the hand of its number;
 #   every hand that `corbelnib deal` prints is read by fc-solve, which shows the same board where it solves it;
+#   every solution of fc-solve's, in five forms, is legal and ends won by `corbelnib play --fc-solve`, and so is its solution of the board that
+#   `corbelnib play --board` prints after ten moves of it;
 #   every line that `corbelnib judge` wins by within 20,000 boards is legal and ends won by tests/legal.py.
 set -u
 here=$(cd "$(dirname "$0")" && pwd)
@@ -46,6 +48,34 @@ read_there() { # HAND
     esac
 }
 
+won_by() { # HAND BOARD WHAT, with the solution on standard input
+    told=$("$command" play "$2" --fc-solve) || wrong "$1" "$3: $told"
+    case $told in
+    *'all legal; the hand is won.'*) ;;
+    *) wrong "$1" "$3: not won" ;;
+    esac
+}
+
+solutions() { # HAND
+    fc-solve -m -snx -l gi hand > letters
+    case $(cat letters) in
+    *'game is solveable'*) ;;
+    *) return ;;
+    esac
+    solved=$((solved + 1))
+    won_by "$1" "$1" '-m -snx' < letters
+    for options in '-p -t -sam' -m '-p -t' ''; do
+        # shellcheck disable=SC2086 # options are words
+        fc-solve $options -l gi hand > solution
+        won_by "$1" "$1" "with $options" < solution
+    done
+    sed -n 3p letters | "$command" play "$1" --fc-solve --board > middle 2> /dev/null || wrong "$1" "its first moves are not legal"
+    fc-solve -m -snx -l gi middle > letters
+    case $(cat letters) in
+    *'game is solveable'*) won_by "$1" middle 'from the middle' < letters ;;
+    esac
+}
+
 judged() { # HAND
     make-microsoft-freecell-board -t "$1" | "$command" judge - --budget 20000 --memory 64M --json > answer
     case $? in
@@ -60,13 +90,16 @@ judged() { # HAND
 
 there=0
 won=0
+solved=0
 hand=1
 while [ "$hand" -le "$last" ]; do
+    # shellcheck disable=SC2094 # hand is a file here, $hand a number
     "$command" deal "$hand" > hand || wrong "$hand" "not dealt"
     read_here "$hand"
     read_there "$hand"
+    solutions "$hand"
     judged "$hand"
     hand=$((hand + 1))
 done
-echo "hands 1 to $last: read both ways; fc-solve solved $there, corbelnib won $won within 20,000 boards, each line legal; $failed failed"
+echo "hands 1 to $last: read both ways; $solved solutions of fc-solve in five forms and from the middle played; fc-solve solved $there, corbelnib won $won within 20,000 boards, each line legal; $failed failed"
 [ "$failed" -eq 0 ]

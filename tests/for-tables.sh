@@ -14,6 +14,7 @@ awk -v folder="$folder" '
 count=0
 for program in "$folder"/*.c; do
     name=${program%.c}
+    # shellcheck disable=SC2086 # words of the compiler
     ${CC:-cc} -std=c11 -Wall -Wextra -Werror -pedantic ${CFLAGS:--O1} -I "$root/include" "$program" "$archive/libcorbelnib.a" -o "$name"
     "$name" > "$name.printed"
     if ! diff "$name.wanted" "$name.printed"; then

@@ -10,7 +10,8 @@ folder=$root/target/fuzz
 rm -rf "$folder"
 mkdir -p "$folder"
 cd "$root"
-sources=$(ls command/*.c | grep -v /main.c)
+sources=$(find command -name '*.c' ! -name main.c)
+# shellcheck disable=SC2086 # names of files of ours
 AFL_QUIET=1 AFL_USE_ASAN=1 AFL_USE_UBSAN=1 afl-clang-fast -std=gnu11 -g -O2 -I include tests/fuzz_read.c tests/read_all.c $sources \
     "$archive" -o "$folder/fuzz_read"
 export AFL_SKIP_CPUFREQ=1 AFL_NO_AFFINITY=1 AFL_I_DONT_CARE_ABOUT_MISSING_CRASHES=1 AFL_NO_UI=1 AFL_QUIET=1

@@ -50,6 +50,7 @@ static void no_board(void) {
     is("season", corbelnib_season(1, 1, 1, 0, NULL, 0, NULL, 0, NULL, 0, NULL, 0, NULL, 0), 21);
     is("add", corbelnib_add(NULL, 0, NULL, 0), 47);
     is("capacity", corbelnib_capacity(0, 0, 0, 0), 0);
+    is("version", corbelnib_version(), CORBELNIB_VERSION_NUMBER);
 }
 
 /* A board is lent, and nothing else. */

@@ -1,4 +1,5 @@
-/* Answers of the library itself, held to demand 3 two by two: `corbelnib agree` must never call a true pair impossible.
+/* Answers of the library itself, held to demand 3 two by two: `corbelnib agree` must never call a true pair impossible. And each is
+ * what a search says that rises to its settings (command/rise.h), here from one board and one node, so that it takes many steps.
  *   masters HANDS STEPS
  * Hands 1 to HANDS, of each the board after some random moves, and those near the end of its winning line, are judged with many budgets,
  * memories and flags; every two answers to one board are compared. Prints how often each pair of answers was met; a pair that is called
@@ -10,6 +11,7 @@
 #include "../command/answer.h"
 #include "../command/demand.h"
 #include "../command/lend.h"
+#include "../command/rise.h"
 
 static const size_t budgets[] = {0, 1, 2, 3, 7, 20, 60, 150, 400, 2000};
 static const size_t rooms[] = {1, 2, 5, 30, 100, 500, 3000, 20000};
@@ -45,6 +47,20 @@ static void walk(uint8_t *board, unsigned *state, size_t steps) {
     }
 }
 
+static void rise(const uint8_t *board, const struct settings *settings, const struct verdict *verdict) {
+    struct verdict risen;
+    size_t lacking;
+    if (!judge_rising(board, settings, NULL, &risen, &lacking)) {
+        exit(2);
+    }
+    if (risen.told != verdict->told || risen.pops != verdict->pops || risen.moves != verdict->moves ||
+        memcmp(risen.list, verdict->list, sizeof risen.list) != 0) {
+        printf("budget %zu, room %zu, partial %d: %u after %zu, and %u after %zu where it rises\n", settings->budget, settings->capacity,
+               settings->partial, verdict->told, verdict->pops, risen.told, risen.pops);
+        failed++;
+    }
+}
+
 static void ask(const uint8_t *board, struct answer *answer, size_t budget, size_t room, bool partial) {
     struct settings settings = {budget, 0, room, partial};
     struct scratch scratch;
@@ -56,6 +72,7 @@ static void ask(const uint8_t *board, struct answer *answer, size_t budget, size
     }
     judge_with(board, &settings, &scratch, &verdict);
     take_back(&scratch);
+    rise(board, &settings, &verdict);
     memset(answer, 0, sizeof *answer);
     memcpy(answer->board, board, sizeof answer->board);
     memcpy(answer->list, verdict.list, sizeof answer->list);

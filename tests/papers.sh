@@ -1,6 +1,6 @@
 #!/bin/sh
 # What is said in several places is the same: tests/papers.sh
-#   every number of `enum corbelnib_told` has its words in command/told.c;
+#   every number of `enum corbelnib_told` and of docs/SCOPE.md has its words in include/corbelnib_says.h, the same as elsewhere;
 #   the version is that of the header (or command/version.h), in --version and in what is installed;
 #   every command of the table is in the man page and in the tests.
 set -u
@@ -13,13 +13,25 @@ wrong() {
     failed=$((failed + 1))
 }
 
-numbers=$(sed -n '/^enum corbelnib_told {/,/^};/s/^ *\(CORBELNIB_[A-Z_]*\) = [0-9]*.*/\1/p' include/corbelnib.h)
-for name in $numbers; do
-    [ "$name" = CORBELNIB_DONE ] || grep -q "{$name, " command/told.c || wrong "command/told.c: no words for $name"
-done
+# name and number: of the header, and of the list
+in_header=$(sed -n '/^enum corbelnib_told {/,/^};/s/^ *CORBELNIB_\([A-Z_]*\) = \([0-9]*\).*/\1 \2/p' include/corbelnib.h | grep -v '^DONE 0$' | sort)
+in_list=$(sed -n 's/^    X(\([A-Z_]*\), \([0-9]*\), ".*").*/\1 \2/p' include/corbelnib_says.h | sort)
+[ "$in_header" = "$in_list" ] || wrong "include/corbelnib_says.h has not the numbers of enum corbelnib_told"
+in_scope=$(sed -n '/^## The numbers handed back/,/^## [^T]/s/^| \([0-9]*\) |.*/\1/p' docs/SCOPE.md | sort)
+[ "$in_scope" = "$(printf '%s\n' "$in_list" | sed 's/.* //' | sort)" ] || wrong "include/corbelnib_says.h has not the numbers of docs/SCOPE.md"
+
+# sentences that the header has too are the same there, and no sentence is written a second time in the command
+while read -r name number; do
+    sentence=$(sed -n "s/^    X($name, $number, \"\([^\"]*\)\").*/\1/p" include/corbelnib_says.h)
+    quoted=$(sed -n "s/^ *CORBELNIB_$name = $number,* *\/\* \"\([^\"]*\)\".*/\1/p" include/corbelnib.h)
+    [ -z "$quoted" ] || [ "$quoted" = "$sentence" ] || wrong "include/corbelnib.h: $name says something else than include/corbelnib_says.h"
+    [ -z "$sentence" ] || ! grep -qF "\"$sentence\"" command/*.c || wrong "command/: '$sentence' is written a second time"
+done << END
+$in_list
+END
 
 version=$(sed -n 's/^#define CORBELNIB_VERSION "\(.*\)"/\1/p' include/corbelnib.h command/version.h | head -n 1)
-[ "$("$command" --version)" = "corbelnib $version" ] || wrong "--version is not $version"
+[ "$("$command" --version | head -n 1)" = "corbelnib $version" ] || wrong "--version is not $version"
 
 for name in $("$command" --help | sed -n 's/^  \([a-z]*\) .*/\1/p'); do
     grep -q "^.SS $name\$" command/corbelnib.1 || wrong "command/corbelnib.1: no section for $name"

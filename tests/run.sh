@@ -4,7 +4,8 @@
 # follows: standard output with two spaces before each line, standard error with `! `, and the status in a line `= N`. Blank lines and
 # lines that begin with # belong to no case. --update writes what came back into the files.
 # The command's version stands there as VERSION.
-# COMMAND is the command to test, target/command/corbelnib if it is not set. Cases of files named plain-.. are left out where SANITIZED is set.
+# COMMAND is the command to test, target/command/corbelnib if it is not set. Cases of files named plain-.. are left out where SANITIZED is set,
+# those named terminal.. where TERMINAL is not: the program of tests/terminal.c, which is at hand as `terminal`.
 set -u
 here=$(cd "$(dirname "$0")" && pwd)
 command=${COMMAND:-$here/../target/command/corbelnib}
@@ -14,17 +15,23 @@ if [ "${1:-}" = --update ]; then
     shift
 fi
 if [ $# -eq 0 ]; then
-    set -- $(cd "$here/cases" && ls | sed 's/[.]case$//')
+    for name in "$here"/cases/*.case; do
+        name=${name##*/}
+        set -- "$@" "${name%.case}"
+    done
 fi
 
 scratch=$(mktemp -d)
 trap 'rm -rf "$scratch"' EXIT
 mkdir "$scratch/bin" "$scratch/tmp"
 ln -s "$(cd "$(dirname "$command")" && pwd)/$(basename "$command")" "$scratch/bin/corbelnib"
+if [ -n "${TERMINAL:-}" ]; then
+    ln -s "$TERMINAL" "$scratch/bin/terminal"
+fi
 export PATH="$scratch/bin:$PATH" T="$scratch/tmp" LC_ALL=C TERM=dumb
 unset NO_COLOR
 cd "$here/data" || exit 1
-version=$(corbelnib --version | sed 's/^corbelnib //; s/[.]/[.]/g')
+version=$(corbelnib --version | sed -n 's/[.]/[.]/g; s/^corbelnib //p')
 
 # Runs one line and prints it with what came back. A missing newline at the end of a stream is told.
 came_back() { # LINE
@@ -65,6 +72,7 @@ failed=0
 for name; do
     file=$here/cases/$name.case
     case ${SANITIZED:+sanitized}$name in sanitizedplain-*) continue ;; esac
+    case ${TERMINAL:-none}$name in noneterminal*) continue ;; esac
     rerun "$file" > "$scratch/came"
     if $update; then
         cat "$scratch/came" > "$file"

@@ -91,7 +91,7 @@ promises() {
 # The numbers of answers and refusals as the header would name them: Refusal::NoCard => 13 is NO_CARD 13.
 numbers_in_code() {
     sed -n 's/^ *\(Refusal\|Said\)::\([A-Za-z]*\) => \([0-9]*\),$/\2 \3/p' crates/board/src/lib.rt crates/finish/src/lib.rt |
-        sed 's/\([a-z]\)\([A-Z]\)/\1_\2/g' | tr a-z A-Z
+        sed 's/\([a-z]\)\([A-Z]\)/\1_\2/g' | tr '[:lower:]' '[:upper:]'
 }
 
 numbers_in_header() {

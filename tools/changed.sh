@@ -63,9 +63,11 @@ if [ -z "$edited" ]; then
     echo "no crate has changed since $base"
     exit
 fi
+# shellcheck disable=SC2046,SC2005,SC2086 # lines made one line of words
 above=$(echo $(with_those_above $changed))
 echo "changed:${changed:- none}"
 echo "proved anew where need be: ${above:-none}"
+# shellcheck disable=SC2086 # names of crates
 [ -z "$above" ] || seconds . proofs "$above" check $above
 
 # The edits are tried on a copy in which no other crate has any.
@@ -78,4 +80,5 @@ done
 mkdir -p target
 ln -s "$PWD/target" "$room/copy/target"
 echo "edits of:$edited"
+# shellcheck disable=SC2086 # names of crates
 seconds "$room/copy" edits "" must-fail $edited

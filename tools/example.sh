@@ -1,18 +1,19 @@
 #!/bin/sh
 # Holds the C example to the header and to what it has to print. The compiler is ${CC:-cc}, and no warning is let through.
 # tools/example.sh --compile: it is compiled against include/corbelnib.h; no library is needed.
-# tools/example.sh: it is linked with the library (tools/archive.sh builds it, unless CORBELNIB_ARCHIVE names a folder with it) and run
+# tools/example.sh: it is linked with the library (tools/library.sh) and run
 # on board S (docs/SCOPE.md) and on refusals.
 set -eu
 cd "$(dirname "$0")/.."
 CFLAGS="-Werror ${CFLAGS:-}"
 export CFLAGS
 if [ "${1:-}" = --compile ]; then
+    # shellcheck disable=SC2086 # words of the compiler
     ${CC:-cc} -std=c11 -Wall -Wextra -pedantic $CFLAGS -I include -fsyntax-only examples/judge.c
     exit
 fi
 
-CORBELNIB_ARCHIVE=${CORBELNIB_ARCHIVE:-$(sh tools/archive.sh)}
+CORBELNIB_ARCHIVE=$(sh tools/library.sh)
 export CORBELNIB_ARCHIVE
 short=$(mktemp)
 trap 'rm -f "$short"' EXIT

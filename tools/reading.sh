@@ -27,6 +27,7 @@ while [ -n "$todo" ]; do
         *) next="$next $(imports "crates/${module%/*}/specs/${module#*/}.antt")" ;;
         esac
     done
+    # shellcheck disable=SC2086,SC2116 # blanks around the names are dropped
     todo=$(echo $next)
 done
 

@@ -21,6 +21,28 @@ no() { # STATUS WHY..
     exit "$status"
 }
 
+# Runs a command in a group of its own and waits. A TERM, HUP or Ctrl-C is handed on to the whole group, and again a second later: parallel's first one
+# starts nothing more, its second ends what runs. (perl is there where parallel is.)
+along() { # COMMAND..
+    perl -e 'setpgrp; exec @ARGV or exit 127' "$@" &
+    group=$!
+    trap 'handed_on 129' HUP
+    trap 'handed_on 130' INT
+    trap 'handed_on 143' TERM
+    status=0
+    wait "$group" || status=$?
+    trap - HUP INT TERM
+    return "$status"
+}
+handed_on() { # STATUS
+    trap '' HUP INT TERM
+    kill -s TERM -- "-$group" 2> /dev/null || true
+    sleep 1
+    kill -s TERM -- "-$group" 2> /dev/null || true
+    wait "$group" || true
+    no "$1" 'stopped: the same command again goes on'
+}
+
 case $# in
 1 | 3 | 4 | 5 | 6) ;;
 *) no 64 "usage: $0 FOLDER [FIRST LAST [BUDGET [NODES [partial]]]] (its first lines tell more)" ;;
@@ -46,9 +68,9 @@ esac
 # The command, built unless it is there.
 if [ -n "${CORBELNIB_ARCHIVE:-}" ]; then
     archive=$(cd "$CORBELNIB_ARCHIVE" && pwd)
-    make -s -C "$root" CORBELNIB_ARCHIVE="$archive" >&2
+    along make -s -C "$root" CORBELNIB_ARCHIVE="$archive" >&2
 else
-    make -s -C "$root" >&2
+    along make -s -C "$root" >&2
 fi
 command=$root/target/command/corbelnib
 
@@ -85,12 +107,14 @@ all=$(shards)
 left=$(missing)
 echo "season.sh: $(count "$left") of $(count "$all") shards are to be judged, by $command" >&2
 if [ -n "$left" ]; then
-    set -- --colsep - --joblog +../joblog
+    printf '%s\n' "$left" > ../left
+    set -- --arg-file ../left --colsep - --joblog +../joblog
     [ -z "${SSHLOGINS:-}" ] || set -- "$@" --sshlogin "$SSHLOGINS" --return "$kind-{1}-{2}.sheet" --cleanup
     # how far it has come: a bar on a terminal, elsewhere a line for each shard that is done
     if [ -t 2 ]; then set -- "$@" --bar; else set -- "$@" -v; fi
-    printf '%s\n' "$left" |
-        parallel "$@" -q "$command" season run '{1}' '{2}' --budget "$budget" --nodes "$nodes" $option --quiet -o "$kind-{1}-{2}.sheet" >&2 || true
+    # shellcheck disable=SC2086 # an option or none
+    along parallel "$@" -q "$command" season run '{1}' '{2}' --budget "$budget" --nodes "$nodes" $option --quiet -o "$kind-{1}-{2}.sheet" >&2 || true
+    rm ../left
     left=$(missing)
     [ -z "$left" ] ||
         no 1 "$(count "$left") of $(count "$all") shards are not done, $(echo "$left" | head -n 1) first: the same command again goes on"
@@ -98,6 +122,7 @@ fi
 
 covers=$first-$last
 [ "$first" -lt "$last" ] || covers=$first
+# shellcheck disable=SC2046,SC2086,SC2059 # names of files of ours
 "$command" season add -o ../season.new $(printf "$kind-%s.sheet\n" $all) ||
     no 1 'a shard that is refused can be deleted: the same command again judges it anew'
 cd ..

@@ -7,11 +7,10 @@ mod codes;
 #[path = "../../compare/src/draws.rs"]
 #[allow(dead_code)]
 mod draws;
-#[path = "../../compare/src/figures.rs"]
-#[allow(dead_code)]
-mod figures;
 #[path = "../../compare/src/gauge.rs"]
 mod gauge;
+#[path = "../../compare/src/given.rs"]
+mod given;
 #[cfg(feature = "memory")]
 mod heap;
 #[path = "../../compare/src/lent.rs"]

@@ -6,7 +6,7 @@ pub mod freecell {
 
     // The original's weights, but for the budget; a name brought in by itself goes before the others.
     pub mod weights {
-        pub use super::given::*;
+        pub use crate::given::*;
         pub use super::Budget as MAX_NODES;
     }
 

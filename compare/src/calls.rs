@@ -11,8 +11,8 @@ use crate::original::freecell::solver;
 use crate::refusals::{
     self, Asked, FEATURES, LIST, MOST_NUMBER, MOST_POPS, RECORD, RECORDS, TOKEN,
 };
+use crate::run::Run;
 use crate::sheet::Sheet;
-use crate::tasks::Run;
 use crate::worked;
 use std::collections::{BTreeMap, BTreeSet};
 

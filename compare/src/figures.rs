@@ -1,11 +1,10 @@
 // The season's figures, a second program: the sheet over some deals, which sheets from outside are refused, and their sum. Written from
 // the customer's words of request (vi) alone, and not after the library.
-use crate::refusals::{Asked, MOST_NUMBER, MOST_POPS};
+use crate::refusals::{Asked, MOST_NUMBER, MOST_POPS, SHEET};
 use std::cmp::Reverse;
 
-// A sheet's words, and where they begin: three settings, the answers, all pops, the shortest and the longest won list with their
+// Where a sheet's words begin: three settings, the answers, all pops, the shortest and the longest won list with their
 // deals, the won lists by length, and a bit for each deal.
-pub const SHEET: usize = 716;
 pub const ANSWERS: usize = 3;
 pub const POPS: usize = 10;
 pub const SHORTEST: usize = 11;

@@ -1,7 +1,7 @@
 // What the original does not tell: how often its search took a waiting node, how many nodes it made, how deep the deepest
 // lies and when it was made, and whether it stopped at the limit. Three of its weights are shadowed by types of ours; the
 // original uses them as it uses numbers, and each use is seen here. One search at a time in a thread.
-use crate::original::freecell::given;
+use crate::given;
 use std::cell::Cell;
 use std::cmp::Ordering;
 use std::ops::Mul;

@@ -11,6 +11,7 @@ mod deep;
 mod draws;
 mod figures;
 mod gauge;
+mod given;
 mod jotted;
 mod judging;
 mod lent;
@@ -30,6 +31,7 @@ mod players;
 mod progress;
 mod records;
 mod refusals;
+mod run;
 mod sample;
 mod seasons;
 mod sheet;
@@ -45,7 +47,8 @@ mod worked;
 
 // The original says `crate::common`.
 use original::common;
-use tasks::{done, Run};
+use run::Run;
+use tasks::done;
 
 const USAGE: &str = include_str!("../usage.txt");
 

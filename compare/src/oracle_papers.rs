@@ -8,8 +8,8 @@ use crate::jotted;
 use crate::original::freecell::board::FreeCellBoard;
 use crate::papers::{self, Paper, TEXT};
 use crate::refusals::LIST;
+use crate::run::Run;
 use crate::sheet::Sheet;
-use crate::tasks::Run;
 use crate::worked;
 use std::collections::BTreeMap;
 

@@ -1,7 +1,8 @@
 // Seasons and sums that the gate holds ours to: expected output of the program tests/oracle_season.c, which says how its input, written by
 // hand, is read. What is expected is made from the original's answers (answers.rs) by the second program (figures.rs).
 use crate::answers::{self, Season};
-use crate::figures::{self, Figures, SHEET};
+use crate::figures::{self, Figures};
+use crate::refusals::SHEET;
 use crate::sheet;
 use std::collections::BTreeMap;
 

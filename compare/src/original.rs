@@ -11,8 +11,8 @@ pub mod freecell {
 
     // The original's weights, but for three that are seen through gauge.rs; a name brought in by itself goes before the others.
     pub mod weights {
-        pub use super::given::*;
         pub use crate::gauge::{MAX_DEPTH, MAX_NODES, PROGRESS_LOW_BLOCKED_PENALTY};
+        pub use crate::given::*;
     }
 
     pub mod solver {

@@ -1,7 +1,6 @@
 // The scope's refusals (docs/SCOPE.md), written from the customer's text alone: what may be asked, and else the number that
 // comes first in its order. What is not refused is the original's to answer.
 use crate::codes::{self, BOARD, COLUMN, EMPTY};
-use crate::figures::SHEET;
 use crate::numbers;
 use crate::original::common::card::{Card, Suit};
 use crate::original::freecell::board::{FreeCellBoard, FreeCellMove};
@@ -14,6 +13,8 @@ pub const TOKEN: usize = 32;
 pub const FEATURES: usize = 7;
 pub const RECORD: usize = 5;
 pub const LIST: usize = 1000;
+// the words of a sheet (figures.rs)
+pub const SHEET: usize = 716;
 pub const MOST_POPS: usize = 1_000_000;
 pub const MOST_NUMBER: usize = 32_000;
 

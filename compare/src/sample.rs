@@ -2,8 +2,8 @@
 // program tests/oracle_judge.c, which says how they are laid out.
 use crate::original::freecell::board::FreeCellBoard;
 use crate::original::freecell::solver::{self, deal, Judged};
+use crate::run::Run;
 use crate::sheet::Sheet;
-use crate::tasks::Run;
 use crate::{boards, codes, deep, gauge, numbers, progress};
 
 const BUDGETS: [usize; 6] = [0, 1, 2, 10, 100, 1_000];

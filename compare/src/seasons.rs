@@ -4,10 +4,10 @@ use crate::answers::{self, Season};
 use crate::asks::{self, Difference};
 use crate::damage::no_number;
 use crate::draws::Draws;
-use crate::figures::{self, Figures, Given, ANSWERS, LONGEST, POPS, SHEET, SHORTEST};
+use crate::figures::{self, Figures, Given, ANSWERS, LONGEST, POPS, SHORTEST};
 use crate::lent::lengths_for;
 use crate::original::freecell::solver::{self, Judged};
-use crate::refusals::{self, MOST_NUMBER, MOST_POPS};
+use crate::refusals::{self, MOST_NUMBER, MOST_POPS, SHEET};
 
 // A run that has no deal.
 const NONE: (usize, usize) = (MOST_NUMBER, 1);

@@ -3,10 +3,9 @@
 use crate::asks::{self, Difference};
 use crate::draws::Draws;
 use crate::figures::{
-    self, Figures, Given, Settings, ANSWERS, COUNTED, COVERS, LISTS, LONG, LONGEST, POPS, SHEET,
-    SHORTEST,
+    self, Figures, Given, Settings, ANSWERS, COUNTED, COVERS, LISTS, LONG, LONGEST, POPS, SHORTEST,
 };
-use crate::refusals::{MOST_NUMBER, MOST_POPS};
+use crate::refusals::{MOST_NUMBER, MOST_POPS, SHEET};
 
 // A word of a sheet made another.
 #[derive(Clone, Copy, Debug)]

@@ -6,6 +6,7 @@ use crate::draws::Draws;
 use crate::original::freecell::board::FreeCellBoard;
 use crate::original::freecell::solver;
 use crate::progress;
+use crate::run::Run;
 use crate::sums::Pair;
 use crate::work::{self, Report, Tally};
 use crate::{
@@ -16,21 +17,6 @@ use crate::{
     listings, oracle_boards, oracle_moves, oracle_papers, oracle_scores, oracle_season,
     oracle_signatures, texts,
 };
-
-pub struct Run {
-    pub seed: u64,
-    pub threads: usize,
-    pub first: usize,
-    // how many exchanges a climb tries
-    pub steps: usize,
-}
-
-impl Run {
-    // The draws of a task.
-    pub fn draws(&self, work: usize, task: usize) -> Draws {
-        Draws::new(self.seed, work as u64, task as u64)
-    }
-}
 
 fn reported(board: &FreeCellBoard, found: &Difference, asked: &str) -> Report {
     let Difference { what, ours, theirs } = found;
