@@ -1,0 +1,5 @@
+-- Laws for the crates above.
+pub mod Children
+pub mod Marks
+pub mod Roots
+pub mod Needed

@@ -1,0 +1,3 @@
+-- Read these in this order.
+pub mod Way
+pub mod Counted
