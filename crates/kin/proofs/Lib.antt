@@ -3,3 +3,5 @@ pub mod Children
 pub mod Marks
 pub mod Roots
 pub mod Needed
+pub mod Births
+pub mod Examples

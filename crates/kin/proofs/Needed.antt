@@ -41,15 +41,15 @@ some-child n parent refs k h =
 
 -- ---- ways
 
-occurs-first : (k : ℕ) (l : List ℕ) → 0 < occurs k (k ∷ l)
+pub occurs-first : (k : ℕ) (l : List ℕ) → 0 < occurs k (k ∷ l)
 occurs-first k l = omega (arith, occurs-here k k l refl)
 
-occurs-later : (k i : ℕ) (l : List ℕ) → 0 < occurs k l → 0 < occurs k (i ∷ l)
+pub occurs-later : (k i : ℕ) (l : List ℕ) → 0 < occurs k l → 0 < occurs k (i ∷ l)
 unfolding occurs
 occurs-later k i l h = omega arith
 
 -- a number in a list is its first, or comes later
-here-later : {A : Type 0} (k i : ℕ) (l : List ℕ) → 0 < occurs k (i ∷ l) → (k ≡ i → A) → (0 < occurs k l → A) → A
+pub here-later : {A : Type 0} (k i : ℕ) (l : List ℕ) → 0 < occurs k (i ∷ l) → (k ≡ i → A) → (0 < occurs k l → A) → A
 here-later {A} k i l h here later = by-test (ℕ-discrete k i)
   where
     by-test : Dec (k ≡ i) → A

@@ -31,3 +31,8 @@ pub record Counted (n : ℕ) (parent refs : ℕ → ℕ) (marks : List ℕ) : Ty
 pub record Rooted (n : ℕ) (parent cost refs : ℕ → ℕ) : Type 0 where
   pub inside : (i : ℕ) → 0 < i → i < n → 0 < refs i → parent i < n
   pub lower : (i : ℕ) → 0 < i → i < n → 0 < refs i → cost (parent i) < cost i
+
+-- the births of held places differ, and are below `born`
+pub record Births (n born : ℕ) (refs birth : ℕ → ℕ) : Type 0 where
+  pub below : (i : ℕ) → i < n → 0 < refs i → birth i < born
+  pub own : (i j : ℕ) → i < n → j < n → 0 < refs i → 0 < refs j → birth i ≡ birth j → i ≡ j
