@@ -9,7 +9,7 @@ use lib.Dec.{eqb, ltb}
 use borrow.Author.Tests.{lt-ltb, le-ltb, ltb-true, eq-eqb, eqb-true}
 use Rattle.base.specs.Words.{occurs, sum}
 use Rattle.base.proofs.Words.{not-so, first, second}
-use Rattle.base.proofs.Sums.{sum-same, sum-changed, sum-part}
+use Rattle.base.proofs.Sums.{sum-same, sum-changed, sum-part, sum-ones}
 use Rattle.kin.specs.Counted.{isHeld, isChild, children, held, Counted, Rooted}
 
 -- ---- one place
@@ -89,6 +89,21 @@ child-counts n parent refs i z l h =
     omega arith
 
 -- ---- how many are held
+
+pub held-most : (n : ℕ) (refs : ℕ → ℕ) → held n refs ≤ n
+unfolding held
+held-most n refs = sum-ones (λ i. cond (isHeld refs i) 1 0) n (λ i l. at-most (isHeld refs i))
+  where
+    at-most : (b : Bool) → cond b 1 0 ≤ 1
+    at-most true = omega arith
+    at-most false = omega arith
+
+pub held-some : (n : ℕ) (refs : ℕ → ℕ) (i : ℕ) → i < n → 0 < refs i → 0 < held n refs
+unfolding held
+held-some n refs i l h =
+    let s = sum-part (λ j. cond (isHeld refs j) 1 0) n i l in
+    let one : _≡_ {A = ℕ} (cond (isHeld refs i) 1 0) 1 = ap (λ (b : Bool). cond b 1 0) (held-is-so refs i h) in
+    omega arith
 
 pub held-stays : (n : ℕ) (f g : ℕ → ℕ) → ((i : ℕ) → i < n → isHeld g i ≡ isHeld f i) → held n g ≡ held n f
 unfolding held

@@ -5,3 +5,6 @@ pub mod Roots
 pub mod Needed
 pub mod Births
 pub mod Examples
+pub mod Words
+pub mod Giving
+pub mod Going
