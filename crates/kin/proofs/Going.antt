@@ -36,6 +36,13 @@ pending-in {n = n} {words = words} p =
       omega (arith, k .places .roomy, k .places .small),
     )
 
+-- the stack has room
+pub pending-slot : {capacity n : ℕ} {words slots : List ℕ} {left at : ℕ} → Pending capacity n words slots left at
+    → topAt capacity n (left - 1) < length slots
+pending-slot p =
+    let q = pending-in p in
+    omega (arith, q .2, q .3, q .4, q .5)
+
 module _ {capacity n : ℕ} {old before : List ℕ} {living i : ℕ} {words slots : List ℕ} {left at refs : ℕ}
     (g : Going capacity n old before living i words slots left at refs) where
   pub going-turn : refs ≡ 1 → {then : List ℕ} {up more : ℕ} → then ≡ counting words at 0 → up ≡ parentAt then at → more ≡ refsAt then up
@@ -82,3 +89,16 @@ module _ {capacity n : ℕ} {old before : List ℕ} {living i : ℕ} {words slot
     where
       down : left ≡ suc (left - 1)
       down = omega (arith, some-living (g .pending .kin))
+
+  -- the words are as many after a count has changed
+  long-after : (refs : ℕ) {then : List ℕ} → then ≡ counting words at refs → length then ≡ length words
+  long-after refs e = ap length e ∙ counting-alike words at refs .long
+
+  pub going-there : {then : List ℕ} → then ≡ counting words at 0 → (at + 1) * 5 ≤ length then
+  going-there e = omega (arith, long-after 0 e, pending-in (g .pending) .0)
+
+  pub going-up : refs ≡ 1 → {then : List ℕ} {up : ℕ} → then ≡ counting words at 0 → up ≡ parentAt then at → (up + 1) * 5 ≤ length then
+  going-up o {then} {up} e f = pending-in (going-turn o {then = then} {up = up} {more = refsAt then up} e f refl .pending) .0
+
+  pub going-long : {then : List ℕ} → then ≡ counting words at (refs - 1) → length then ≡ length old
+  going-long e = long-after (refs - 1) e ∙ g .wide

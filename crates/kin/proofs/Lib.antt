@@ -8,3 +8,4 @@ pub mod Examples
 pub mod Words
 pub mod Giving
 pub mod Going
+pub mod Taking

@@ -41,3 +41,8 @@ module _ (words : List ℕ) (i refs : ℕ) where
 
   pub refs-but : (n : ℕ) → But n i (refsAt words) (refsAt (counting words i refs))
   refs-but n = record { same = λ k l d. refs-else k d }
+
+-- a count was read, and one more written
+pub held-by : (words : List ℕ) (i : ℕ) {refs : ℕ} {then : List ℕ} → refs ≡ refsAt words i → then ≡ counting words i (refs + 1)
+    → then ≡ counting words i (refsAt words i + 1)
+held-by words i e f = f ∙ ap (λ (x : ℕ). counting words i (x + 1)) e
