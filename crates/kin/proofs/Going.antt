@@ -80,12 +80,13 @@ module _ {capacity n : ℕ} {old before : List ℕ} {living i : ℕ} {words slot
   going-some = omega (arith, g .count, place-held (g .pending .kin))
 
   pub going-end : (refs ≡ 1 → ⊥) → {then : List ℕ} → then ≡ counting words at (refs - 1)
-      → givenBack capacity n old before living i ≡ keeps then slots left
+      → keeps then slots left ≡ givenBack capacity n old before living i
   going-end d {then} e =
+      sym (
       g .ends ∙ ap (λ (x : ℕ). givenBack capacity n words slots x at) down
       ∙ give-stop capacity n words slots (left - 1) at (omega (arith, g .count, going-some))
       ∙ ap (λ (x : ℕ). keeps (counting words at (refsAt words at - 1)) slots x) (sym down)
-      ∙ ap (λ (x : ℕ). keeps (counting words at (x - 1)) slots left) (sym (g .count)) ∙ ap (λ (w : List ℕ). keeps w slots left) (sym e)
+      ∙ ap (λ (x : ℕ). keeps (counting words at (x - 1)) slots left) (sym (g .count)) ∙ ap (λ (w : List ℕ). keeps w slots left) (sym e))
     where
       down : left ≡ suc (left - 1)
       down = omega (arith, some-living (g .pending .kin))

@@ -63,7 +63,7 @@ pub fn let_go(
     i: usize,
 ) -> usize
     requires { ⌜ Pending capacity fresh (now words) (now slots) living i ⌝ }
-    ensures { λ r. ⌜ givenBack capacity fresh (now (words .entry)) (now (slots .entry)) living i ≡ keeps (now (words .exit)) (now (slots .exit)) r ⌝ }
+    ensures { λ r. ⌜ keeps (now (words .exit)) (now (slots .exit)) r ≡ givenBack capacity fresh (now (words .entry)) (now (slots .entry)) living i ⌝ }
 {
     let mut at = i;
     let mut left = living;
