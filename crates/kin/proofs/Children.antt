@@ -1,16 +1,13 @@
 -- Held places and their children, when counts and parents change.
 use mathlib.Core.Path.{_≡_, refl, sym, ap, _∙_}
 use mathlib.Core.Bool.{Bool, true, false, cond, _&&_}
-use mathlib.Core.List.{List, _∷_}
 use Prim.Native.Nat.{ℕ, _+_, _<_, _≤_}
 use native.Mathlib.Omega.{arith}
-use native.Mathlib.Decide.{ℕ-discrete, decLt}
 use lib.Dec.{eqb, ltb}
 use borrow.Author.Tests.{lt-ltb, le-ltb, ltb-true, eq-eqb, eqb-true}
-use Rattle.base.specs.Words.{occurs, sum}
 use Rattle.base.proofs.Words.{not-so, first, second}
 use Rattle.base.proofs.Sums.{sum-same, sum-changed, sum-part, sum-ones}
-use Rattle.kin.specs.Counted.{isHeld, isChild, children, held, Counted, Rooted}
+use Rattle.kin.specs.Counted.{isHeld, isChild, children, held}
 
 -- ---- one place
 

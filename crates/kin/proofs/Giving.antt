@@ -1,21 +1,19 @@
 -- The turns of giving back, and holding: places, counts and the stack of free places stay right.
 use mathlib.Core.Path.{_≡_, refl, sym, ap, _∙_, subst}
-use mathlib.Core.Bool.{Bool, true, false, cond}
 use mathlib.Core.List.{List, _∷_}
 use Prim.Native.Nat.{ℕ, zero, suc, _+_, _*_, _-_, _<_, _≤_}
 use native.Mathlib.Omega.{arith}
 use native.Mathlib.Decide.{ℕ-discrete, decLt}
-use lib.Dec.{ltb}
 use borrow.Author.Tests.{lt-ltb, le-ltb}
 use lib.ListN.{length, getD, set, length-set}
 use lib.Seq.{getD-set-same, getD-set-other}
-use Rattle.kin.specs.Counted.{held, Counted, Rooted}
+use Rattle.kin.specs.Counted.{Counted, Rooted}
 use Rattle.kin.specs.Places.{parentAt, refsAt, counting, topAt, Places, Kin, Kept, keeps, givenBack}
 use Rattle.kin.proofs.Children.{held-most, held-some}
-use Rattle.kin.proofs.Marks.{But, first-in, counted-same, mark-more, mark-less, let-go, held-marked, held-let-go, marked-held}
+use Rattle.kin.proofs.Marks.{first-in, counted-same, mark-more, mark-less, let-go, held-marked, held-let-go, marked-held}
 use Rattle.kin.proofs.Roots.{rooted-fewer}
 use Rattle.kin.proofs.Needed.{occurs-first, root-twice}
-use Rattle.kin.proofs.Words.{Alike, alike-self, alike-on, parents-alike, counting-alike, refs-there, refs-else, refs-but}
+use Rattle.kin.proofs.Words.{Alike, alike-on, parents-alike, counting-alike, refs-there, refs-else, refs-but}
 
 -- ---- places
 

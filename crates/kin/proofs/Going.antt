@@ -1,11 +1,10 @@
 -- The loop of `let_go`: what is left to give back from here gives what the whole gives.
 use mathlib.Core.Path.{_≡_, refl, sym, ap, _∙_, subst}
-use mathlib.Core.List.{List, _∷_}
-use Prim.Native.Nat.{ℕ, zero, suc, _+_, _*_, _-_, _<_, _≤_}
+use mathlib.Core.List.{List}
+use Prim.Native.Nat.{ℕ, suc, _+_, _*_, _-_, _<_, _≤_}
 use native.Mathlib.Omega.{arith}
-use native.Mathlib.Numerals.{add-one}
-use lib.ListN.{length, getD, set, length-set}
-use Rattle.kin.specs.Places.{parentAt, refsAt, counting, topAt, Kin, Pending, Kept, keeps, givenBack}
+use lib.ListN.{length, set, length-set}
+use Rattle.kin.specs.Places.{parentAt, refsAt, counting, topAt, Pending, keeps, givenBack}
 use Rattle.kin.proofs.Children.{held-most}
 use Rattle.kin.proofs.Words.{parents-alike, counting-alike}
 use Rattle.kin.proofs.Giving.{place-in, place-held, some-living, kin-turn, give-on, give-stop}

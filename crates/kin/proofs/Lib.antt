@@ -4,8 +4,9 @@ pub mod Marks
 pub mod Roots
 pub mod Needed
 pub mod Births
-pub mod Examples
 pub mod Words
+pub mod Starting
 pub mod Giving
 pub mod Going
 pub mod Taking
+pub mod Examples

@@ -1,7 +1,7 @@
 -- The counts stay right: a place is marked once more, or once less, a freed place's mark goes on to its parent, a free place is
 -- taken for a child.
 use mathlib.Core.Path.{_≡_, refl, sym, ap, _∙_}
-use mathlib.Core.Bool.{true, cond}
+use mathlib.Core.Bool.{cond}
 use mathlib.Core.List.{List, _∷_}
 use Prim.Native.Nat.{ℕ, _+_, _<_, _≤_}
 use native.Mathlib.Omega.{arith}
@@ -10,7 +10,7 @@ use lib.Dec.{eqb}
 use borrow.Author.Tests.{eq-eqb, ne-eqb}
 use Rattle.base.specs.Words.{occurs}
 use Rattle.base.proofs.Words.{occurs-here, occurs-other}
-use Rattle.kin.specs.Counted.{isHeld, children, held, Counted, Rooted}
+use Rattle.kin.specs.Counted.{isHeld, held, Counted}
 use Rattle.kin.proofs.Children.{held-both, held-as, children-same, children-more, child-counts, held-stays, held-more}
 
 -- below n, g is f but at place i

@@ -1,14 +1,14 @@
 -- Under right counts a place is held exactly if it is needed, and the root is, while anything is marked.
-use mathlib.Core.Path.{_≡_, refl, sym, ap, _∙_, subst}
-use mathlib.Core.Bool.{Bool, true, false, cond, _&&_}
+use mathlib.Core.Path.{_≡_, refl, sym, ap, subst}
+use mathlib.Core.Bool.{Bool, true, false, cond}
 use mathlib.Core.List.{List, [], _∷_, _++_}
 use Prim.Native.Nat.{ℕ, zero, suc, _+_, _<_, _≤_}
 use native.Mathlib.Omega.{arith}
 use native.Mathlib.Decide.{ℕ-discrete, decLt}
-use lib.Dec.{eqb, ltb}
-use borrow.Author.Tests.{lt-ltb, ltb-true, eqb-true}
+use lib.Dec.{ltb}
+use borrow.Author.Tests.{lt-ltb, ltb-true}
 use Rattle.base.specs.Words.{occurs, sum}
-use Rattle.base.proofs.Words.{occurs-none, occurs-here, occurs-other, occurs-append, same-test, first, second}
+use Rattle.base.proofs.Words.{occurs-none, occurs-here, occurs-other, occurs-append, same-test}
 use Rattle.base.proofs.Sums.{sum-part}
 use Rattle.kin.specs.Way.{wayUp, way, ways, isNeeded}
 use Rattle.kin.specs.Counted.{isHeld, isChild, children, Counted, Rooted}

@@ -1,13 +1,13 @@
 -- Parents below n, and each cheaper than its child: that stays so when places are marked, freed and taken. And one place more.
 use mathlib.Core.Path.{_≡_, refl, sym, ap, _∙_, subst}
-use mathlib.Core.Bool.{true, cond}
+use mathlib.Core.Bool.{cond}
 use mathlib.Core.List.{List, _∷_}
-use Prim.Native.Nat.{ℕ, _+_, _<_, _≤_}
+use Prim.Native.Nat.{ℕ, _+_, _<_}
 use native.Mathlib.Omega.{arith}
-use native.Mathlib.Decide.{ℕ-discrete, decLt}
+use native.Mathlib.Decide.{ℕ-discrete}
 use lib.Dec.{eqb}
 use borrow.Author.Tests.{eq-eqb, ne-eqb}
-use Rattle.base.specs.Words.{occurs, sum}
+use Rattle.base.specs.Words.{occurs}
 use Rattle.base.proofs.Sums.{sum-zero, sum-next}
 use Rattle.kin.specs.Counted.{isHeld, isChild, children, held, Counted, Rooted}
 use Rattle.kin.proofs.Children.{children-same, child-elsewhere, child-free, held-as, held-stays, free-so}

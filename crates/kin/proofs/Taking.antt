@@ -1,14 +1,12 @@
 -- The place of a new node, and the birth there: kin as before, with one mark and one child more.
-use mathlib.Core.Path.{_≡_, refl, sym, ap, _∙_}
-use mathlib.Core.Bool.{cond}
+use mathlib.Core.Path.{_≡_, sym, ap, _∙_}
 use mathlib.Core.List.{List, _∷_}
 use Prim.Native.Nat.{ℕ, _+_, _*_, _-_, _<_, _≤_}
 use native.Mathlib.Omega.{arith}
 use native.Mathlib.Decide.{ℕ-discrete}
-use lib.Dec.{ltb}
 use borrow.Author.Tests.{lt-ltb, le-ltb}
 use lib.ListN.{length, getD}
-use Rattle.kin.specs.Places.{parentAt, refsAt, topAt, Places, Kin, nextPlace}
+use Rattle.kin.specs.Places.{parentAt, refsAt, topAt, Kin, nextPlace}
 use Rattle.kin.proofs.Marks.{But, Taken, taken, held-taken}
 use Rattle.kin.proofs.Roots.{rooted-taken, taken-fresh, rooted-fresh, held-fresh}
 use Rattle.kin.proofs.Needed.{root-held}

@@ -1,9 +1,9 @@
 -- A place's count changes in memory, and nothing else does.
-use mathlib.Core.Path.{_≡_, refl, sym, ap, _∙_}
+use mathlib.Core.Path.{_≡_, ap, _∙_}
 use mathlib.Core.List.{List}
 use Prim.Native.Nat.{ℕ, _+_, _*_, _<_, _≤_}
 use native.Mathlib.Omega.{arith}
-use lib.ListN.{length, getD, set, length-set}
+use lib.ListN.{length, getD, length-set}
 use lib.Seq.{getD-set-same, getD-set-other}
 use Rattle.kin.specs.Places.{parentAt, refsAt, counting}
 use Rattle.kin.proofs.Marks.{But}
@@ -12,9 +12,6 @@ use Rattle.kin.proofs.Marks.{But}
 pub record Alike (old new : List ℕ) : Type 0 where
   pub long : length new ≡ length old
   pub same : (i at : ℕ) → i * 5 ≤ at → at < i * 5 + 4 → getD new at 0 ≡ getD old at 0
-
-pub alike-self : (words : List ℕ) → Alike words words
-alike-self words = record { long = refl; same = λ i at l h. refl }
 
 pub alike-on : {first then last : List ℕ} → Alike first then → Alike then last → Alike first last
 alike-on a b = record { long = b .long ∙ a .long; same = λ i at l h. b .same i at l h ∙ a .same i at l h }
