@@ -1,5 +1,5 @@
 -- Under right counts a place is held exactly if it is needed, and the root is, while anything is marked.
-use mathlib.Core.Path.{_≡_, refl, sym, ap, subst}
+use mathlib.Core.Path.{_≡_, refl, sym, ap, _∙_, subst}
 use mathlib.Core.Bool.{Bool, true, false, cond}
 use mathlib.Core.List.{List, [], _∷_, _++_}
 use Prim.Native.Nat.{ℕ, zero, suc, _+_, _<_, _≤_}
@@ -157,6 +157,33 @@ module _ {n : ℕ} {parent cost refs : ℕ → ℕ} (r : Rooted n parent cost re
 
     pub on-ways : (k : ℕ) → 0 < occurs k (ways parent cost marks) → (k < n) × (0 < refs k)
     on-ways = on-ways-of marks (λ m h. h)
+
+    -- ---- ways that stay: whatever happens to places that are not held
+
+    module _ (P C : ℕ → ℕ) (p : (k : ℕ) → k < n → 0 < refs k → P k ≡ parent k) (e : (k : ℕ) → k < n → 0 < refs k → C k ≡ cost k) where
+      up-same : (fuel i : ℕ) → i < n → 0 < refs i → wayUp P fuel i ≡ wayUp parent fuel i
+      unfolding wayUp
+      up-same zero i l h = refl
+      up-same (suc fuel) zero l h = refl
+      up-same (suc fuel) (suc i) l h =
+          let q = r .inside (suc i) (omega arith) l h in
+          ap (λ (x : ℕ). suc i ∷ wayUp P fuel x) (p (suc i) l h)
+          ∙ ap (λ (w : List ℕ). suc i ∷ w) (up-same fuel (parent (suc i)) q (parent-held c (suc i) (omega arith) l h q))
+
+      pub way-same : (i : ℕ) → i < n → 0 < refs i → way P C i ≡ way parent cost i
+      unfolding way
+      way-same i l h = ap (λ (x : ℕ). wayUp P x i) (e i l h) ∙ up-same (cost i) i l h
+
+      ways-same-of : (l : List ℕ) → ((m : ℕ) → 0 < occurs m l → 0 < occurs m marks) → ways P C l ≡ ways parent cost l
+      unfolding ways
+      ways-same-of [] s = refl
+      ways-same-of (m ∷ l) s =
+          let mine = s m (occurs-first m l) in
+          ap (λ (w : List ℕ). w ++ ways P C l) (way-same m (marked-in c m mine) (marked-held c m mine))
+          ∙ ap (λ (w : List ℕ). way parent cost m ++ w) (ways-same-of l (λ j h. s j (occurs-later j m l h)))
+
+      pub ways-same : ways P C marks ≡ ways parent cost marks
+      ways-same = ways-same-of marks (λ m h. h)
 
     -- ---- needed
 
