@@ -6,7 +6,7 @@ use native.Mathlib.Omega.{arith}
 use lib.Dec.{eqb, ltb}
 use borrow.Author.Tests.{lt-ltb, le-ltb, ltb-true, eq-eqb, eqb-true}
 use Rattle.base.proofs.Words.{not-so, first, second}
-use Rattle.base.proofs.Sums.{sum-same, sum-changed, sum-part, sum-ones}
+use Rattle.base.proofs.Sums.{sum-same, sum-changed, sum-part, sum-ones, sum-most}
 use Rattle.kin.specs.Counted.{isHeld, isChild, children, held}
 
 -- ---- one place
@@ -117,3 +117,15 @@ held-more n f g i l e h q =
     let none : _≡_ {A = ℕ} (old i) 0 = ap (λ (b : Bool). cond b 1 0) (free-so f i e) in
     let one : _≡_ {A = ℕ} (new i) 1 = ap (λ (b : Bool). cond b 1 0) (held-is-so g i h) in
     omega arith
+
+-- children are held
+pub children-most : (n : ℕ) (parent refs : ℕ → ℕ) (k : ℕ) → children n parent refs k ≤ held n refs
+unfolding children held isChild
+children-most n parent refs k =
+    sum-most (λ i. cond (isHeld refs i && (ltb 0 i && eqb k (parent i))) 1 0) (λ i. cond (isHeld refs i) 1 0) n
+    (λ i l. one-of-both (isHeld refs i) (ltb 0 i && eqb k (parent i)))
+  where
+    one-of-both : (a b : Bool) → cond (a && b) 1 0 ≤ cond a 1 0
+    one-of-both true true = omega arith
+    one-of-both true false = omega arith
+    one-of-both false b = omega arith

@@ -1,17 +1,18 @@
 -- The counts stay right: a place is marked once more, or once less, a freed place's mark goes on to its parent, a free place is
 -- taken for a child.
 use mathlib.Core.Path.{_≡_, refl, sym, ap, _∙_}
-use mathlib.Core.Bool.{cond}
-use mathlib.Core.List.{List, _∷_}
-use Prim.Native.Nat.{ℕ, _+_, _<_, _≤_}
+use mathlib.Core.Bool.{Bool, true, false, cond}
+use mathlib.Core.List.{List, [], _∷_}
+use Prim.Native.Nat.{ℕ, suc, _+_, _<_, _≤_}
 use native.Mathlib.Omega.{arith}
 use native.Mathlib.Decide.{ℕ-discrete, decLt}
 use lib.Dec.{eqb}
+use lib.ListN.{length}
 use borrow.Author.Tests.{eq-eqb, ne-eqb}
 use Rattle.base.specs.Words.{occurs}
 use Rattle.base.proofs.Words.{occurs-here, occurs-other}
 use Rattle.kin.specs.Counted.{isHeld, held, Counted}
-use Rattle.kin.proofs.Children.{held-both, held-as, children-same, children-more, child-counts, held-stays, held-more}
+use Rattle.kin.proofs.Children.{held-both, held-as, children-same, children-more, child-counts, held-stays, held-more, children-most}
 
 -- below n, g is f but at place i
 pub record But (n i : ℕ) (f g : ℕ → ℕ) : Type 0 where
@@ -36,6 +37,20 @@ module _ {n : ℕ} {parent refs : ℕ → ℕ} {marks : List ℕ} (c : Counted n
 
   pub parent-held : (i : ℕ) → 0 < i → i < n → 0 < refs i → parent i < n → 0 < refs (parent i)
   parent-held i z l h p = let e = c .count (parent i) p in let s = child-counts n parent refs i z l h in omega arith
+
+occurs-most : (k : ℕ) (l : List ℕ) → occurs k l ≤ length l
+unfolding occurs
+occurs-most k [] = omega arith
+occurs-most k (i ∷ l) = at-most (eqb k i) (occurs-most k l)
+  where
+    at-most : (b : Bool) → occurs k l ≤ length l → cond b 1 0 + occurs k l ≤ suc (length l)
+    at-most true h = omega arith
+    at-most false h = omega arith
+
+-- so a count fits a word where marks and held places are few enough
+pub count-most : {n : ℕ} {parent refs : ℕ → ℕ} {marks : List ℕ} → Counted n parent refs marks → (k : ℕ) → k < n
+    → refs k ≤ length marks + held n refs
+count-most {n} {parent} {refs} {marks} c k l = omega (arith, c .count k l, occurs-most k marks, children-most n parent refs k)
 
 pub first-in : {n : ℕ} {parent refs : ℕ → ℕ} {marks : List ℕ} (i : ℕ) → Counted n parent refs (i ∷ marks) → i < n
 first-in {marks = marks} i c = marked-in c i (let o = occurs-here i i marks refl in omega arith)
