@@ -34,7 +34,8 @@ esac
 END
 # shellcheck disable=SC2016 # these are expanded where the script is run
 printf '#!/bin/sh\nfor word; do last=$word; done\necho compiled > "$last"\n' > "$folder/kit/on/$machine/toolchain/bin/clang"
-cp "$folder/kit/on/$machine/toolchain/bin/clang" "$folder/kit/on/$machine/toolchain/bin/llvm-ar"
+# shellcheck disable=SC2016 # as above; its second word is the archive
+printf '#!/bin/sh\necho archived > "$2"\n' > "$folder/kit/on/$machine/toolchain/bin/llvm-ar"
 chmod +x "$folder/kit/bin/rt" "$folder/kit/on/$machine/toolchain/bin/"*
 PATH=$folder/kit/bin:$PATH
 export PATH

@@ -104,8 +104,8 @@ if [ -s "$scratch/stand-in/started" ] && kill -0 "$(cat "$scratch/stand-in/start
     kill -s KILL "$(cat "$scratch/stand-in/started")"
 fi
 
-# The command without proofs says so wherever it says anything, answers the same, and is not installed.
-if command -v rt > /dev/null; then
+# The command without proofs says so wherever it says anything, answers the same, and is not installed. It was made on x86-64, and is tried there.
+if command -v rt > /dev/null && [ "$(uname -m)" = x86_64 ]; then
     make -s unproved > "$scratch/said" 2>&1 || wrong 'make unproved fails:' "$(cat "$scratch/said")"
     unproved=$root/target/command-unproved
     "$unproved/corbelnib" judge 8 --json > "$scratch/answer" 2> /dev/null
@@ -129,7 +129,7 @@ if command -v rt > /dev/null; then
     case $said in *'corbelnib is not installed: its library is NOT PROVED'*) ;; *) wrong 'make install says of a library that is not proved:' "$said" ;; esac
     [ ! -e "$scratch/installed" ] || wrong 'make install has installed what is not proved'
 else
-    echo 'house: no rt, so make unproved is not tried'
+    echo 'house: no rt, or no x86-64, so make unproved is not tried'
 fi
 [ "$(target/command/corbelnib --version | grep -c 'NOT PROVED')" = 0 ] || wrong 'corbelnib says that it is NOT PROVED'
 
