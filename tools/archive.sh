@@ -31,6 +31,13 @@ exec '$kit/$tools/bin/clang' "\$@"
 END
 }
 
+# What lies below is proved first, as many crates at a time as there are processors: rt staticlib takes one after the other. It has the last word.
+below() {
+    crates=$(sh tools/reached.sh corbelnib 2> /dev/null) || return 0
+    # shellcheck disable=SC2086 # names of crates
+    [ -z "$crates" ] || rt check $crates >&2 || true
+}
+
 # rt with that kit; on x86-64 with the real one, if the other is not to be had or is not taken (2: the toolchain failed).
 library() {
     status=2
@@ -47,6 +54,7 @@ library() {
 }
 
 rm -f "$host/module.bc" "$root/target/staticlib/module.bc"
+below
 library
 if [ "$machine" = x86_64 ]; then
     if [ -s "$host/module.bc" ]; then

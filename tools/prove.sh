@@ -10,7 +10,7 @@ log=target/proving.log
 failed=target/proving.failed
 rm -f "$failed"
 : > "$log"
-echo "$total crates are proved before the library is built: some ten minutes the first time, later only what has changed." >&2
+echo "$total crates are proved before the library is built: ten to twenty minutes the first time, later only what has changed." >&2
 
 # A line for each crate, from what rt says.
 told() {
