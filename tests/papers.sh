@@ -2,7 +2,8 @@
 # What is said in several places is the same: tests/papers.sh
 #   every number of `enum corbelnib_told` and of docs/SCOPE.md has its words in include/corbelnib_says.h, the same as elsewhere;
 #   the version is that of the header (or command/version.h), in --version and in what is installed;
-#   every command of the table is in the man page and in the tests.
+#   every command of the table is in the man page and in the tests;
+#   what C cannot have checked, and what a table has to know, stands where it is read.
 set -u
 root=$(cd "$(dirname "$0")/.." && pwd)
 command=${COMMAND:-$root/target/command/corbelnib}
@@ -40,5 +41,15 @@ for name in $("$command" --help | sed -n 's/^  \([a-z]*\) .*/\1/p'); do
         grep -q "$(printf '%s' "$option" | sed 's/-/\\\\-/g')" command/corbelnib.1 || wrong "command/corbelnib.1: $name has $option"
     done
 done
+while read -r words; do
+    grep -qF "$words" include/corbelnib.h || wrong "include/corbelnib.h does not say: $words"
+done << 'END'
+is written to other memory than the board's own
+one sheet is not both of corbelnib_add
+keep 0, 2 and 4 as they were, for one value of `partial`
+A table that judges after each touch lends 1 MB
+END
+grep -qF 'rt try oneboard && cat crates/oneboard/stdout' README.md || wrong "README.md does not show what oneboard prints"
+
 [ "$failed" -eq 0 ] && echo "papers: the same everywhere"
 [ "$failed" -eq 0 ]
