@@ -106,7 +106,8 @@ fi
 
 # The command without proofs says so wherever it says anything, answers the same, and is not installed. It was made on x86-64, and is tried there.
 if command -v rt > /dev/null && [ "$(uname -m)" = x86_64 ]; then
-    make -s unproved > "$scratch/said" 2>&1 || wrong 'make unproved fails:' "$(cat "$scratch/said")"
+    # with whatever kit is here: that another than the pinned one is refused is tried above
+    CORBELNIB_KIT=$(rt version) make -s unproved > "$scratch/said" 2>&1 || wrong 'make unproved fails:' "$(cat "$scratch/said")"
     unproved=$root/target/command-unproved
     "$unproved/corbelnib" judge 8 --json > "$scratch/answer" 2> /dev/null
     "$unproved/corbelnib" season run 8 8 --budget 100 --nodes 1000 > "$scratch/sheet" 2> "$scratch/said"
