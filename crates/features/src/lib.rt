@@ -8,7 +8,7 @@ ghost use Rattle.features.specs.Features.{last_goes_home, blocked_in, blocked_on
 
 use board::{CODES, ROOM};
 
-#[derive(Drop)]
+#[derive(Clone, Copy)]
 pub struct Features {
     pub home: usize,
     pub immediate: usize,

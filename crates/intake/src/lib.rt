@@ -10,7 +10,7 @@ pub mod image;
 pub mod number;
 
 // A board beside what was said of it; after a refusal the board is all zero.
-#[derive(Drop)]
+#[derive(Clone, Copy)]
 pub struct Reading {
     pub said: Examined,
     pub board: Board,

@@ -15,7 +15,7 @@ pub const MOST_MOVES: usize = 200;
 pub const LIST_ROOM: usize = 5 * MOST_MOVES;
 
 // Runs are a source and a count; the card is the deepest that is moved.
-#[derive(Drop)]
+#[derive(Clone, Copy)]
 pub enum Move {
     TableauToTableau {
         source: usize,
@@ -49,14 +49,14 @@ pub enum Move {
 }
 
 // A column, a cell, the foundation of a suit.
-#[derive(Drop)]
+#[derive(Clone, Copy)]
 pub enum Place {
     Column(usize),
     Cell(usize),
     Home(usize),
 }
 
-#[derive(Drop)]
+#[derive(Clone, Copy)]
 pub enum Decoded {
     Is(Move),
     Impossible,

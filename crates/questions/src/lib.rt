@@ -14,25 +14,25 @@ use board::{Board, CODES, Examined, ROOM, Refusal};
 use card::Card;
 
 // The top of a column, or what a cell shows: the Rust's `Option<Card>`.
-#[derive(Drop)]
+#[derive(Clone, Copy)]
 pub enum Top {
     Is(Card),
     Empty,
 }
 
-#[derive(Drop)]
+#[derive(Clone, Copy)]
 pub enum TopAnswer {
     Shows(Top),
     Refused(Refusal),
 }
 
-#[derive(Drop)]
+#[derive(Clone, Copy)]
 pub enum CountAnswer {
     Count(usize),
     Refused(Refusal),
 }
 
-#[derive(Drop)]
+#[derive(Clone, Copy)]
 pub enum WonAnswer {
     Won,
     NotWon,

@@ -15,7 +15,7 @@ use board::verdict::inspect;
 use board::{Board, CODES, Examined, ROOM, Refusal};
 use questions::CountAnswer;
 
-#[derive(Drop)]
+#[derive(Clone, Copy)]
 pub enum YesNo {
     Yes,
     No,

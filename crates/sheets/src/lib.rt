@@ -45,7 +45,7 @@ pub const NO_KEY: u64 = 6_586_368;
 pub const MOST_BUDGET: u64 = 1_000_000;
 
 // Which won list is marked.
-#[derive(Drop)]
+#[derive(Clone, Copy)]
 pub enum Side {
     Shortest,
     Longest,

@@ -10,7 +10,7 @@ ghost use Rattle.signature.specs.Signed.{home_words, column_hashes, signed, sign
 use board::verdict::inspect;
 use board::{Board, CODES, Examined, ROOM, Refusal};
 
-#[derive(Drop)]
+#[derive(Clone, Copy)]
 pub enum SignatureAnswer {
     Signature(u64),
     Refused(Refusal),
