@@ -21,8 +21,8 @@ pub fn may_lie_on(upper: u8, lower: u8) -> bool
     requires lower_value { is_card lower ≡ true }
     ensures { result ≡ follows upper lower }
 {
-    let one_more_lem = lower / 16 + 1;
-    if upper / 16 != one_more_lem {
+    let one_more = lower / 16 + 1;
+    if upper / 16 != one_more {
         return false;
     }
     is_red(upper) != is_red(lower)

@@ -6,9 +6,9 @@ use Rattle.runs.proofs.Lying.{lies}
 use borrow.Author.Rules.{rules}
 use Rattle.runs.proofs.may_lie_on.Goals as goal
 
-pub returns-then-upper-one_more_lem : goal.returns-then-upper-one_more_lem
+pub returns-then-upper-one_more : goal.returns-then-upper-one_more
 unfolding follows
-returns-then-upper-one_more_lem c = rw (ne_eqb _ _ c.if-upper-one_more_lem.true)
+returns-then-upper-one_more c = rw (ne_eqb _ _ c.if-upper-one_more.true)
 
 pub returns : goal.returns
-returns c = lies c.args.upper c.args.lower c.if-upper-one_more_lem.false c.is_red.ensures c.is_red-2.ensures
+returns c = lies c.args.upper c.args.lower c.if-upper-one_more.false c.is_red.ensures c.is_red-2.ensures
