@@ -1,11 +1,7 @@
 -- The run, turn after turn, and how it ends.
 use mathlib.Core.Path.{◌≡◌, refl, sym, subst}
-use mathlib.Core.List.{[], ◌∷◌}
-use mathlib.Core.Logic.{⊎_elim}
 use Prim.Native.Nat.{ℕ, ◌+◌, ◌-◌, ◌<◌, ◌≤◌}
 use native.Mathlib.Omega.{arith}
-use types.Run.{OneOf}
-use denote.Enum.Declared.{tag_of}
 use Rattle.board.specs.Record.{shown}
 use Rattle.board.specs.declared.Board.{Board}
 use Rattle.memory.specs.declared.Room.{Room}
@@ -17,7 +13,6 @@ use Rattle.memory.specs.declared.Ended.TheVariants as ended
 use Rattle.memory.specs.Memory.{Memory}
 use Rattle.memory.specs.View.{state_of}
 use Rattle.memory.specs.Machine.{Machine}
-use Rattle.memory.specs.contracts.Advance.{the_type}
 use Rattle.memory.proofs.Visiting.{Turns}
 use Rattle.memory.proofs.Running.{Running, running_start, running_exhausted, running_limit, running_turn, running_won, running_stuck}
 use Rattle.children.specs.Inner.{SameSize}
@@ -40,13 +35,6 @@ going_start {root} {r} {m} {c} budget k e =
       running = subst (λ (q : ℕ). Running (shown root) r budget (state_of (shown root) r m c) q m c) (let z : 0 ≡ budget - budget = omega arith in z)
           (running_start (shown root) r budget refl);
     }
-
--- a turn that does not go on
-other_turn : (a : Advance) → OneOf (1 ∷ 2 ∷ []) (tag_of the_type a) → (d : Counts) → a ≡ advance.Again d → ⊥
-other_turn a k d e = none (subst (λ (x : Advance). OneOf (1 ∷ 2 ∷ []) (tag_of the_type x)) e k)
-  where
-    none : OneOf (1 ∷ 2 ∷ []) 0 → ⊥
-    none k = ⊎_elim (λ e. omega arith) (λ e. omega arith) k
 
 module _ {root : Board} {r : Room} {budget : ℕ} {m₀ : Memory} {c₀ : Counts} {m : Memory} {c : Counts} {left : ℕ} (g : Going root r budget m₀ c₀ m c left) where
   pub going_pops : c.pops ≤ budget
@@ -93,5 +81,5 @@ module _ {root : Board} {r : Room} {budget : ℕ} {m₀ : Memory} {c₀ : Counts
     over (advance.WonBy i d) y n = record { closed = y.went; ends = running_won g.running within (turns y) }
     over (advance.OutOfNodes p) y n = record { closed = tt; ends = running_stuck g.running within (turns y) }
 
-    pub going_over : {new : Memory} {a : Advance} {e : Ended} → Advances root r m new c a → OneOf (1 ∷ 2 ∷ []) (tag_of the_type a) → e ≡ ended_by a → Goes root r budget m₀ new c₀ e
-    going_over {new} {a} y k q = subst (Goes root r budget m₀ new c₀) (sym q) (over a y (other_turn a k))
+    pub going_over : {new : Memory} {a : Advance} {e : Ended} → Advances root r m new c a → ((d : Counts) → a ≡ advance.Again d → ⊥) → e ≡ ended_by a → Goes root r budget m₀ new c₀ e
+    going_over {new} {a} y k q = subst (Goes root r budget m₀ new c₀) (sym q) (over a y k)

@@ -1,0 +1,10 @@
+-- What `capacity_of` leaves to be shown: the least of five numbers.
+use mathlib.Core.Path.{ap, ◌∙◌}
+use Prim.Native.Nat.{min, ◌/◌}
+use Rattle.solver.specs.Capacity.{capacity_of}
+use borrow.Author.Rules.{rules}
+use Rattle.solver.proofs.capacity_of.Goals as goal
+
+pub returns : goal.returns
+unfolding capacity_of
+returns c = c.lesser-3.ensures ∙ ap (min (c.args.nodes / 3)) (c.lesser-2.ensures ∙ ap (min c.args.heap) (c.lesser-entries.ensures ∙ ap (min (c.args.keys / 2)) c.lesser.ensures))

@@ -1,0 +1,13 @@
+-- What `go` leaves to be shown: turn after turn, until something ends the run.
+use mathlib.Core.Path.{◌∙◌}
+use native.Mathlib.Omega.{arith}
+use Rattle.turns.proofs.Going.{Going, going_start, going_pops, going_limit, going_exhausted, going_turn, going_over}
+use borrow.Author.Rules.{rules}
+use Rattle.memory.specs.Memory.{lent}
+use Rattle.turns.proofs.go.Given as goal
+
+abbrev pub invariant-loop-counts : goal.invariant-loop-counts
+invariant-loop-counts l = Going l.root l.room l.budget (lent l.initial.nodes l.initial.heap l.initial.keys l.initial.costs) l.initial.counts (lent l.nodes l.heap l.keys l.costs) l.counts l.left
+
+abbrev pub decreases-loop-counts : goal.decreases-loop-counts
+decreases-loop-counts l = l.left
