@@ -53,6 +53,7 @@ printf '#!/bin/sh\nfor word; do last=$word; done\necho compiled > "$last"\n' > "
 chmod +x "$folder/kit/bin/rt" "$folder/kit/bin/rattle" "$folder/kit/toolchain/bin/clang"
 PATH=$folder/kit/bin:$PATH
 export PATH
+unset LIBRARIES
 
 build() { # TROUBLE
     rm -rf "$folder/clone/target" "$folder/clone/libraries"
