@@ -1,4 +1,5 @@
 // The board record and what a card player sees on it (after freecell/board.rs, `FreeCellBoard`, changed: NOTICE).
+#![tactic(auto)]
 ghost use Rattle.std.specs.Prelude.{◌≡◌};
 ghost use Rattle.board.specs.Record.{examined};
 ghost use Rattle.board.specs.Refusal.{number_of, examined_told};
@@ -13,7 +14,7 @@ pub const CODES: usize = 8 * ROOM;
 
 // Four cells (a card's code, or 255), four foundation counts, eight column counts, and eight columns of room for 52
 // codes each, the deepest first; unused room is zero.
-#[derive(Drop)]
+#[derive(Clone, Copy)]
 pub struct Board {
     pub cells: [u8; 4],
     pub foundation: [u8; 4],
@@ -22,7 +23,7 @@ pub struct Board {
 }
 
 // Why something is refused; specs/Refusal.antt has SCOPE.md's number for each.
-#[derive(Drop)]
+#[derive(Clone, Copy)]
 pub enum Refusal {
     WrongLength,
     WrongVersion,
@@ -56,14 +57,14 @@ pub enum Refusal {
     WrongSheet,
 }
 
-#[derive(Drop)]
+#[derive(Clone, Copy)]
 pub enum Examined {
     WellFormed,
     Refused(Refusal),
 }
 
 // What is asked of each byte of a list.
-#[derive(Drop)]
+#[derive(Clone, Copy)]
 pub enum Kind {
     Card,
     Cell,
@@ -71,7 +72,7 @@ pub enum Kind {
 }
 
 // The cards seen so far, a bit a card, or that one came twice.
-#[derive(Drop)]
+#[derive(Clone, Copy)]
 enum Seen {
     Cards(u64),
     Twice,

@@ -14,7 +14,7 @@ pub const MOST_TRIED: usize = 332;
 pub const TRIED_ROOM: usize = 5 * MOST_TRIED;
 
 // What is asked of a move before it is tried.
-#[derive(Drop)]
+#[derive(Clone, Copy)]
 pub enum Test {
     Safe,
     Unsafe,

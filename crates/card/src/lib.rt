@@ -1,10 +1,11 @@
 // Cards: the four suits, their colours, and a card's code, value * 16 + suit (after common/card.rs, changed: NOTICE).
+#![tactic(auto)]
 ghost use Rattle.std.specs.Prelude.{◌≡◌, true};
 ghost use Rattle.card.specs.Suit.{suit_number, suit_at, color_of, suit_asked, suit_told};
 ghost use Rattle.card.specs.Card.{is_card, is_value, card_of, code_of, code_asked, code_told, card_asked, card_told};
 ghost use Rattle.card.specs.Pack.{place_of};
 
-#[derive(Drop)]
+#[derive(Clone, Copy)]
 pub enum Suit {
     Club,
     Diamond,
@@ -12,34 +13,34 @@ pub enum Suit {
     Spade,
 }
 
-#[derive(Drop)]
+#[derive(Clone, Copy)]
 pub enum Color {
     Black,
     Red,
 }
 
-#[derive(Drop)]
+#[derive(Clone, Copy)]
 pub struct Card {
     pub suit: Suit,
     pub value: u8,
 }
 
 // The Rust's `Option<Suit>`.
-#[derive(Drop)]
+#[derive(Clone, Copy)]
 pub enum FoundSuit {
     Is(Suit),
     NoSuit,
 }
 
 // A card's code; none where the value is no card's.
-#[derive(Drop)]
+#[derive(Clone, Copy)]
 pub enum Coded {
     Code(u8),
     NoCode,
 }
 
 // The Rust's `Option<Card>`.
-#[derive(Drop)]
+#[derive(Clone, Copy)]
 pub enum Decoded {
     Is(Card),
     NoCard,

@@ -16,7 +16,7 @@ use memory::{Counts, Growth, Room};
 use moves::{Decoded, MOST_MOVES, Move};
 
 // A child is dropped, or its cost goes to an entry of the table.
-#[derive(Drop)]
+#[derive(Clone, Copy)]
 pub enum Choice {
     Dropped,
     Slot(usize),

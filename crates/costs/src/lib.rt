@@ -1,11 +1,12 @@
 // The best cost known by key, in lent memory: entries found by probing from the key's home.
+#![tactic(auto)]
 ghost use Rattle.std.specs.Prelude.{◌≡◌, true, ◌<◌, ◌≤◌, length};
 ghost use Rattle.costs.specs.Entries.{is_used, cost_at, holds};
 ghost use Rattle.costs.specs.Table.{home, Table};
 ghost use Rattle.costs.specs.Promises.{Part, Scans, slot_at, Place, Finds, Stores};
 
 // Where a key's entry is, or is to be.
-#[derive(Drop)]
+#[derive(Clone, Copy)]
 pub enum Slot {
     At(usize),
     Free(usize),

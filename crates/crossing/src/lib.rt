@@ -7,7 +7,7 @@ pub mod tell;
 pub mod wire;
 
 // A kind of move asked for by its number.
-#[derive(Drop)]
+#[derive(Clone, Copy)]
 pub enum WayAnswer {
     Is(Way),
     NoWay,

@@ -1,6 +1,6 @@
 -- Demand 1 holds.
 use mathlib.Core.Path.{◌≡◌, refl, sym, ap, ap₂, ◌∙◌, subst}
-use mathlib.Core.Bool.{Bool, true, false, ◌||◌, or_true}
+use mathlib.Core.Bool.{Bool, true, false, ◌||◌, or-true}
 use mathlib.Core.List.{List, [], ◌∷◌, ◌++◌}
 use Prim.Native.Nat.{ℕ}
 use lib.Dec.{eqb, ltb}
@@ -54,7 +54,7 @@ use Rattle.demands.proofs.Seasons.{season_ruled, season_clears, add-ruled}
 -- ---- which numbers a line of moves ends with: 0, or that of a bad move
 
 pub bad_move_lem : (n : ℕ) → is_in n of_moves ≡ true → hands replay n ≡ true
-bad_move_lem n h = ap (λ (b : Bool). eqb n 0 || b) h ∙ or_true (eqb n 0)
+bad_move_lem n h = ap (λ (b : Bool). eqb n 0 || b) h ∙ or-true (eqb n 0)
 
 line-hands : (v : Verdict) → Refuses of_moves v → hands replay (told v) ≡ true
 line-hands (given u) r = refl

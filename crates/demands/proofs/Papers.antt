@@ -1,6 +1,6 @@
 -- The calls for lines on paper: which numbers they tell, with a place or without, and their rows of the table of orders.
 use mathlib.Core.Path.{◌≡◌, refl, sym, ap, ◌∙◌, subst}
-use mathlib.Core.Bool.{Bool, true, false, cond, not, ◌&&◌, ◌||◌, or_true}
+use mathlib.Core.Bool.{Bool, true, false, cond, not, ◌&&◌, ◌||◌, or-true}
 use mathlib.Core.List.{List, [], ◌∷◌, ◌++◌}
 use Prim.Native.Nat.{ℕ, suc}
 use native.Mathlib.Omega.{arith}
@@ -95,11 +95,11 @@ moves_stop ns (j ∷ js) t at = by (ruled t (meant t j)) (ruled_refuses t (meant
 pub wider : {A : Type 0} (ns ps : List ℕ) (k : ℕ) (o : Outcome A) → Stops ns ps o → Stops ns (k ∷ ps) o
 wider ns ps k (gives x) s = tt
 wider ns ps k (refuses n) s = s
-wider ns ps k (refuses_at n p) s = ap (λ (b : Bool). eqb n k || b) s ∙ or_true (eqb n k)
+wider ns ps k (refuses_at n p) s = ap (λ (b : Bool). eqb n k || b) s ∙ or-true (eqb n k)
 
 pub refuses_more : {A : Type 0} (k : ℕ) (ps : List ℕ) (a : Answer A) → Refuses ps a → Refuses (k ∷ ps) a
 refuses_more k ps (given x) r = tt
-refuses_more k ps (refused n) r = ap (λ (b : Bool). eqb n k || b) r ∙ or_true (eqb n k)
+refuses_more k ps (refused n) r = ap (λ (b : Bool). eqb n k || b) r ∙ or-true (eqb n k)
 
 -- a list that is replayed: 0, or the number of a bad move
 pub line_refuses : (rs : List (List ℕ)) (b : Board) → Refuses of_moves (line_from b rs).verdict
@@ -207,7 +207,7 @@ module _ {A : Type 0} (ps : List ℕ) (old : List ℕ × ℕ) (room : Outcome (L
   paper_held (refused n) rest s = ap (λ (l : List ℕ). left {A = List ℕ × ℕ} n (l, old.1)) (same n)
   paper_held (given u) (gives l) s = refl
   paper_held (given u) (refuses n) s = true_or_not false s refl
-  paper_held (given u) (refuses_at n p) s = ap (λ (b : Bool). eqb n 0 || b) s ∙ or_true (eqb n 0)
+  paper_held (given u) (refuses_at n p) s = ap (λ (b : Bool). eqb n 0 || b) s ∙ or-true (eqb n 0)
 
 pub read_line-ruled : (i : In read_line) (l : Places read_line) → Ruled read_line i l
 unfolding line_read_left

@@ -1,6 +1,6 @@
 -- Which numbers an answer is refused with.
 use mathlib.Core.Path.{◌≡◌, refl, sym, ap, ◌∙◌, subst}
-use mathlib.Core.Bool.{Bool, true, false, not, ◌||◌, or_true}
+use mathlib.Core.Bool.{Bool, true, false, not, ◌||◌, or-true}
 use mathlib.Core.List.{List, [], ◌∷◌}
 use Prim.Native.Nat.{ℕ}
 use borrow.Author.Tests.{eq-eqb, eqb-true}
@@ -109,7 +109,7 @@ first_refuses (t ∷ ts) = by t.0 (wider (first_failing ts) (first_refuses ts))
   where
     wider : (v : Verdict) → Refuses (numbers ts) v → Refuses (numbers (t ∷ ts)) v
     wider (given u) r = tt
-    wider (refused n) r = ap (λ (b : Bool). eqb n t.1 || b) r ∙ or_true (eqb n t.1)
+    wider (refused n) r = ap (λ (b : Bool). eqb n t.1 || b) r ∙ or-true (eqb n t.1)
 
     by : (ok : Bool) → Refuses (numbers (t ∷ ts)) (first_failing ts) → Refuses (numbers (t ∷ ts)) (unless ok t.1 (first_failing ts))
     by true r = r

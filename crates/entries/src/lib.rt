@@ -1,4 +1,5 @@
 // A sheet started, and deals entered into it one by one.
+#![tactic(auto)]
 ghost use Rattle.std.specs.Prelude.{◌≡◌, cond, ◌+◌, ◌^◌, ◌<◌, ◌≤◌, length, get_or};
 ghost use Rattle.base.specs.Words.{occurs};
 ghost use Rattle.sheets.specs.Figures.{answers_counted};

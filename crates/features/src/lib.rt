@@ -1,4 +1,5 @@
 // The features of a well formed board, from its arrays (after freecell/solver.rs, `compute_features`, changed: NOTICE).
+#![tactic(auto)]
 ghost use Rattle.std.specs.Prelude.{◌≡◌, cond, ◌∷◌, [], ◌/◌, ◌≤◌, ◌<◌, min, max, leb, length, get_or};
 ghost use Rattle.base.specs.Words.{sum, listed};
 ghost use Rattle.board.specs.Table.{held};
@@ -8,7 +9,7 @@ ghost use Rattle.features.specs.Features.{last_goes_home, blocked_in, blocked_on
 
 use board::{CODES, ROOM};
 
-#[derive(Drop)]
+#[derive(Clone, Copy)]
 pub struct Features {
     pub home: usize,
     pub immediate: usize,

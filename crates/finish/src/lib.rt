@@ -14,7 +14,7 @@ use board::{Board, Refusal};
 use memory::{Counts, Ended};
 
 // How a search was answered; specs/Said.antt has SCOPE.md's number for each.
-#[derive(Drop)]
+#[derive(Clone, Copy)]
 pub enum Said {
     Won,
     BestAtLimit,
@@ -27,7 +27,7 @@ pub enum Said {
 }
 
 // The answer, the pops, and how many moves the list has.
-#[derive(Drop)]
+#[derive(Clone, Copy)]
 pub struct Judged {
     pub said: Said,
     pub pops: usize,

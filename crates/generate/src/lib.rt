@@ -6,7 +6,7 @@ pub const MOST_RECORDS: usize = 836;
 pub const RECORD_ROOM: usize = 5 * MOST_RECORDS;
 
 // The six kinds of move.
-#[derive(Drop)]
+#[derive(Clone, Copy)]
 pub enum Way {
     ColumnToColumn,
     ColumnToHome,

@@ -12,7 +12,7 @@ use crate::{Reading, no_board};
 use board::{Board, CODES, Examined, Kind, ROOM, Refusal, verdict};
 
 // Where an image's columns lie: the first code of each, and how many; ok if the last ends where the image does.
-#[derive(Drop)]
+#[derive(Clone, Copy)]
 struct Outline {
     pub ok: bool,
     pub starts: [usize; 8],

@@ -1,4 +1,5 @@
 // Boards from outside: reading an image, dealing a deck, dealing the hand of a number.
+#![tactic(auto)]
 ghost use Rattle.std.specs.Prelude.{◌≡◌};
 ghost use Rattle.board.specs.declared.Examined.TheVariants.{Refused};
 ghost use Rattle.intake.specs.Handed.{blank};
@@ -10,7 +11,7 @@ pub mod image;
 pub mod number;
 
 // A board beside what was said of it; after a refusal the board is all zero.
-#[derive(Drop)]
+#[derive(Clone, Copy)]
 pub struct Reading {
     pub said: Examined,
     pub board: Board,

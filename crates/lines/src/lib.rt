@@ -17,7 +17,7 @@ use moves::{Decoded, MOST_MOVES};
 use safe::SafeMove;
 
 // The board after some moves, and how many records stand in the list then.
-#[derive(Drop)]
+#[derive(Clone, Copy)]
 pub struct Written {
     pub board: Board,
     pub records: usize,

@@ -1,7 +1,7 @@
 // What the search counts beside the lent memory, and how its steps end (after freecell/solver.rs, changed: NOTICE).
 
 // Nodes born, nodes that wait, the best node and its raised progress score, and the pops.
-#[derive(Drop)]
+#[derive(Clone, Copy)]
 pub struct Counts {
     pub born: usize,
     pub waiting: usize,
@@ -11,21 +11,21 @@ pub struct Counts {
 }
 
 // How many nodes there is room for, and how many entries the table of costs has.
-#[derive(Drop)]
+#[derive(Clone, Copy)]
 pub struct Room {
     pub capacity: usize,
     pub entries: usize,
 }
 
 // A node was expanded, or there was no room for a child.
-#[derive(Drop)]
+#[derive(Clone, Copy)]
 pub enum Growth {
     OutOfNodes,
     Grown(Counts),
 }
 
 // A node was taken: the search goes on, or it is won by that node, or there was no room.
-#[derive(Drop)]
+#[derive(Clone, Copy)]
 pub enum Advance {
     Again(Counts),
     WonBy { node: usize, counts: Counts },
@@ -33,7 +33,7 @@ pub enum Advance {
 }
 
 // How a search ended.
-#[derive(Drop)]
+#[derive(Clone, Copy)]
 pub enum Ended {
     Won { node: usize, counts: Counts },
     Limit(Counts),

@@ -1,6 +1,6 @@
 -- An allowed move on a well-formed table leaves a well-formed table.
 use mathlib.Core.Path.{◌≡◌, refl, sym, ap, ◌∙◌}
-use mathlib.Core.Bool.{Bool, true, ◌&&◌, ◌||◌, or_true}
+use mathlib.Core.Bool.{Bool, true, ◌&&◌, ◌||◌, or-true}
 use mathlib.Core.List.{List, [], ◌∷◌, ◌++◌}
 use Prim.Native.Nat.{ℕ, zero, suc, ◌+◌, ◌-◌, ◌*◌, ◌<◌, ◌≤◌}
 use native.Mathlib.Omega.{arith}
@@ -65,7 +65,7 @@ module _ (p : ℕ → Bool) where
 cell_code_lem : (l : List ℕ) → all is_card l ≡ true → is_cell (cell_code l) ≡ true
 unfolding is_cell all
 cell_code_lem [] e = refl
-cell_code_lem (x ∷ l) e = ap (λ (b : Bool). eqb x 255 || b) (first (is_card x) (all is_card l) e) ∙ or_true (eqb x 255)
+cell_code_lem (x ∷ l) e = ap (λ (b : Bool). eqb x 255 || b) (first (is_card x) (all is_card l) e) ∙ or-true (eqb x 255)
 
 put_only : (t : Table) (p : Place) (l : List ℕ) → only_cards t ≡ true → all is_card l ≡ true → only_cards (put t p l) ≡ true
 unfolding only_cards

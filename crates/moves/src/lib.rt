@@ -1,4 +1,5 @@
 // A move and its five-byte record (after freecell/board.rs, `FreeCellMove`, changed: NOTICE).
+#![tactic(auto)]
 ghost use Rattle.std.specs.Prelude.{◌≡◌, true, ◌∷◌, [], ◌+◌, ◌*◌, ◌<◌, ◌≤◌, length};
 ghost use Rattle.card.specs.Card.{is_card};
 ghost use Rattle.card.specs.Suit.{suit_number};
@@ -15,7 +16,7 @@ pub const MOST_MOVES: usize = 200;
 pub const LIST_ROOM: usize = 5 * MOST_MOVES;
 
 // Runs are a source and a count; the card is the deepest that is moved.
-#[derive(Drop)]
+#[derive(Clone, Copy)]
 pub enum Move {
     TableauToTableau {
         source: usize,
@@ -49,14 +50,14 @@ pub enum Move {
 }
 
 // A column, a cell, the foundation of a suit.
-#[derive(Drop)]
+#[derive(Clone, Copy)]
 pub enum Place {
     Column(usize),
     Cell(usize),
     Home(usize),
 }
 
-#[derive(Drop)]
+#[derive(Clone, Copy)]
 pub enum Decoded {
     Is(Move),
     Impossible,

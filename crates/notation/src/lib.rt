@@ -1,9 +1,10 @@
 // A written move and its signs, and the form of a line. Knows no cards.
+#![tactic(auto)]
 pub mod form;
 pub mod put;
 
 // A move as it is written; `Counted` has `v` and a digit.
-#[derive(Drop)]
+#[derive(Clone, Copy)]
 pub enum Jot {
     Between {
         source: usize,
@@ -32,7 +33,7 @@ pub enum Jot {
 
 // What is due next: a source; the target of a column's or a cell's move; after two columns a `v`, a space or the end; a digit; after
 // any other whole move a space or the end.
-#[derive(Drop)]
+#[derive(Clone, Copy)]
 pub enum Due {
     Source,
     OfColumn(usize),
@@ -43,7 +44,7 @@ pub enum Due {
 }
 
 // A sign leads on to what is due then, ends a move (the space), or is wrong.
-#[derive(Drop)]
+#[derive(Clone, Copy)]
 pub enum Step {
     On(Due),
     Ends(Jot),
@@ -51,7 +52,7 @@ pub enum Step {
 }
 
 // So many moves are written, or the sign at a place is the first wrong one.
-#[derive(Drop)]
+#[derive(Clone, Copy)]
 pub enum Formed {
     Moves(usize),
     WrongAt(usize),

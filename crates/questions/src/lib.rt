@@ -1,6 +1,7 @@
 // The plain questions about a board (after freecell/board.rs and `is_win` of freecell/solver.rs, changed: NOTICE). Each entry
 // point examines its record first; beside it stands the inner form for a record known to be well formed, which borrows the
 // arrays that it reads and copies nothing.
+#![tactic(auto)]
 ghost use Rattle.std.specs.Prelude.{◌≡◌, cond, ◌<◌, eqb, length, get_or};
 ghost use Rattle.base.specs.Words.{sum, listed};
 ghost use Rattle.board.specs.Record.{column_at};
@@ -14,25 +15,25 @@ use board::{Board, CODES, Examined, ROOM, Refusal};
 use card::Card;
 
 // The top of a column, or what a cell shows: the Rust's `Option<Card>`.
-#[derive(Drop)]
+#[derive(Clone, Copy)]
 pub enum Top {
     Is(Card),
     Empty,
 }
 
-#[derive(Drop)]
+#[derive(Clone, Copy)]
 pub enum TopAnswer {
     Shows(Top),
     Refused(Refusal),
 }
 
-#[derive(Drop)]
+#[derive(Clone, Copy)]
 pub enum CountAnswer {
     Count(usize),
     Refused(Refusal),
 }
 
-#[derive(Drop)]
+#[derive(Clone, Copy)]
 pub enum WonAnswer {
     Won,
     NotWon,

@@ -23,7 +23,7 @@ use sense::meant::meant_at;
 use sense::{LineAnswer, MoveAnswer};
 
 // The written move at a place of a line, and the place of the next; or the text is no line.
-#[derive(Drop)]
+#[derive(Clone, Copy)]
 enum Cut {
     Is(Jot, usize),
     Wrong,

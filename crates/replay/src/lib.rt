@@ -13,14 +13,14 @@ use board::{Board, CODES, Examined, Refusal};
 use moves::{Decoded, LIST_ROOM, Move};
 
 // The board after a move, or the board before it beside a refusal.
-#[derive(Drop)]
+#[derive(Clone, Copy)]
 pub struct Moved {
     pub said: Examined,
     pub board: Board,
 }
 
 // The board at the end, or before the first bad move, and how many moves were played: the place of that move.
-#[derive(Drop)]
+#[derive(Clone, Copy)]
 pub struct Replayed {
     pub said: Examined,
     pub moves: usize,
@@ -28,7 +28,7 @@ pub struct Replayed {
 }
 
 // The same beside a board that lies in four arrays.
-#[derive(Drop)]
+#[derive(Clone, Copy)]
 pub struct Stopped {
     pub said: Examined,
     pub moves: usize,

@@ -1,4 +1,5 @@
 // The rules of laying cards: fit, run, the most cards moved at once (after freecell/board.rs, changed: NOTICE).
+#![tactic(auto)]
 ghost use Rattle.std.specs.Prelude.{◌≡◌, true, ◌<◌, get_or};
 ghost use Rattle.base.specs.Words.{listed};
 ghost use Rattle.card.specs.Card.{is_card};
@@ -15,7 +16,7 @@ use board::verdict::inspect;
 use board::{Board, CODES, Examined, ROOM, Refusal};
 use questions::CountAnswer;
 
-#[derive(Drop)]
+#[derive(Clone, Copy)]
 pub enum YesNo {
     Yes,
     No,
@@ -101,9 +102,9 @@ pub fn most_at<'a>(
     requires to_bound { to < 8 }
     ensures { result ≡ most_moved cells.now (listed 8 (column_at counts.now tableau.now)) to }
 {
-    let one_more_lem = questions::empty_cells_at(cells) + 1;
+    let one_more = questions::empty_cells_at(cells) + 1;
     let times = 1usize << usable_at(counts, tableau, to);
-    one_more_lem * times
+    one_more * times
 }
 
 // The foundation takes a card.

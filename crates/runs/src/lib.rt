@@ -1,4 +1,5 @@
 // Which card may lie on which (after freecell/board.rs, `is_valid_tableau_run`, changed: NOTICE).
+#![tactic(auto)]
 ghost use Rattle.std.specs.Prelude.{◌≡◌, true};
 ghost use Rattle.card.specs.Card.{is_card};
 ghost use Rattle.runs.specs.Follows.{red, follows};
@@ -20,8 +21,8 @@ pub fn may_lie_on(upper: u8, lower: u8) -> bool
     requires lower_value { is_card lower ≡ true }
     ensures { result ≡ follows upper lower }
 {
-    let one_more_lem = lower / 16 + 1;
-    if upper / 16 != one_more_lem {
+    let one_more = lower / 16 + 1;
+    if upper / 16 != one_more {
         return false;
     }
     is_red(upper) != is_red(lower)

@@ -23,20 +23,20 @@ use questions::Top;
 use rules::YesNo;
 
 // The first safe move, if there is one: the Rust's `Option<FreeCellMove>`.
-#[derive(Drop)]
+#[derive(Clone, Copy)]
 pub enum SafeMove {
     Is(Move),
     NoMove,
 }
 
-#[derive(Drop)]
+#[derive(Clone, Copy)]
 pub enum SafeAnswer {
     First(SafeMove),
     Refused(Refusal),
 }
 
 // The board after the safe chain, and how many moves it had.
-#[derive(Drop)]
+#[derive(Clone, Copy)]
 pub struct Chained {
     pub said: Examined,
     pub moves: usize,

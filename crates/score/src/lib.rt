@@ -11,13 +11,13 @@ pub mod scores;
 pub mod token;
 pub mod weights;
 
-#[derive(Drop)]
+#[derive(Clone, Copy)]
 pub enum FeaturesAnswer {
     Are(Features),
     Refused(Refusal),
 }
 
-#[derive(Drop)]
+#[derive(Clone, Copy)]
 pub enum ScoreAnswer {
     Score(i64),
     Refused(Refusal),

@@ -6,7 +6,7 @@ pub mod meant;
 pub mod noted;
 
 // The moves read or the bytes written; a refusal; a refusal with the place of a sign (42) or of a move.
-#[derive(Drop)]
+#[derive(Clone, Copy)]
 pub enum LineAnswer {
     Count(usize),
     Refused(Refusal),
@@ -14,7 +14,7 @@ pub enum LineAnswer {
 }
 
 // What a written move means on a board, or why it means nothing there.
-#[derive(Drop)]
+#[derive(Clone, Copy)]
 pub enum MoveAnswer {
     Is(Move),
     Refused(Refusal),

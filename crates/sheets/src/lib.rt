@@ -1,5 +1,6 @@
 // The season's figures: sheets of words over deal numbers, and their marks. Deals are entered by `entries`, sheets examined by `audit`
 // and added by `totals`. Knows no cards.
+#![tactic(auto)]
 pub mod mark;
 
 // The words of a sheet, and where its figures stand (specs/Figures.antt).
@@ -45,7 +46,7 @@ pub const NO_KEY: u64 = 6_586_368;
 pub const MOST_BUDGET: u64 = 1_000_000;
 
 // Which won list is marked.
-#[derive(Drop)]
+#[derive(Clone, Copy)]
 pub enum Side {
     Shortest,
     Longest,

@@ -1,4 +1,5 @@
 // FNV-1a and the signature of a board (after freecell/board.rs, `compute_signature`, changed: NOTICE).
+#![tactic(auto)]
 ghost use Rattle.std.specs.Prelude.{◌≡◌, ◌*◌, ◌%◌, ◌^◌, ◌<◌, ◌≤◌, length};
 ghost use Rattle.base.specs.Words.{listed, concat};
 ghost use Rattle.board.specs.Record.{shown, column_at, laid};
@@ -10,7 +11,7 @@ ghost use Rattle.signature.specs.Signed.{home_words, column_hashes, signed, sign
 use board::verdict::inspect;
 use board::{Board, CODES, Examined, ROOM, Refusal};
 
-#[derive(Drop)]
+#[derive(Clone, Copy)]
 pub enum SignatureAnswer {
     Signature(u64),
     Refused(Refusal),

@@ -1,0 +1,18 @@
+-- What `count_deals` leaves to be shown: the deals before i are counted.
+use mathlib.Core.Path.{sym, ◌∙◌}
+use Prim.Native.Nat.{◌-◌}
+use Rattle.sheets.proofs.Loops.{Counted, counted_none, counted_one, counted_not, counted_end}
+use borrow.Author.Rules.{rules}
+use Rattle.audit.proofs.count_deals.Goals as goal
+
+pub loop-i-init : goal.loop-i-init
+loop-i-init c = counted_none _
+
+pub loop-i-preserved-then-covered_at : goal.loop-i-preserved-then-covered_at
+loop-i-preserved-then-covered_at c = counted_one c.loop-i.invariant c.loop-i-test.true (sym c.covered_at.ensures ∙ c.if-covered_at.true)
+
+pub loop-i-preserved : goal.loop-i-preserved
+loop-i-preserved c = counted_not c.loop-i.invariant c.loop-i-test.true (sym c.covered_at.ensures ∙ c.if-covered_at.false)
+
+pub returns : goal.returns
+returns c = counted_end c.loop-i.invariant c.loop-i-test.false

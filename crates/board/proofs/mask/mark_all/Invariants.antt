@@ -1,0 +1,25 @@
+-- What `mark_all` leaves to be shown: a loop over lists of one card each.
+use mathlib.Core.Path.{subst}
+use mathlib.Core.List.{List, ◌∷◌, []}
+use Prim.Native.Nat.{ℕ, ◌-◌}
+use lib.ListN.{length, get_or}
+use borrow.Author.Rules.{rules}
+use Rattle.base.specs.Words.{listed, concat}
+use Rattle.card.specs.Card.{is_card}
+use Rattle.base.proofs.Words.{all_at, singles}
+use Rattle.board.specs.Inner.{Marks}
+use Rattle.board.specs.declared.Seen.{Seen}
+use Rattle.board.proofs.Marks.{Passed, pass_none, pass_more, pass_stop, pass_end}
+use Rattle.board.proofs.mask.mark_all.Given as goal
+
+abbrev each : List ℕ → ℕ → List ℕ
+each s k = get_or s k 0 ∷ []
+
+whole : {seen : ℕ} (s : List ℕ) {r : Seen} → Marks seen (concat (listed (length s) (each s))) r → Marks seen s r
+whole {seen} s {r} m = subst (λ (l : List ℕ). Marks seen l r) (singles s) m
+
+abbrev pub invariant-loop-i : goal.invariant-loop-i
+invariant-loop-i l = Passed l.seen (each l.s) (length l.s) l.cards l.i
+
+abbrev pub decreases-loop-i : goal.decreases-loop-i
+decreases-loop-i l = length l.s - l.i

@@ -1,0 +1,48 @@
+-- What `columns_are_cards` leaves to be shown: a checking loop over the eight parts.
+use mathlib.Core.Path.{◌≡◌, sym, ap, ◌∙◌}
+use mathlib.Core.Bool.{Bool, true}
+use mathlib.Core.List.{List}
+use Prim.Native.Nat.{ℕ, ◌-◌, ◌≤◌}
+use native.Mathlib.Omega.{arith}
+use borrow.Author.Tests.{not-true, not-false}
+use Rattle.base.specs.Words.{every, all}
+use Rattle.card.specs.Card.{is_card}
+use Rattle.base.proofs.Words.{every_none, every_more, every_end, every_fails, all-concat}
+use Rattle.board.specs.Inner.{part_at}
+use Rattle.board.proofs.Tables.{part_is}
+use borrow.Author.Rules.{rules}
+use Rattle.board.proofs.verdict.columns_are_cards.Goals as goal
+
+abbrev here : List ℕ → List ℕ → List ℕ → ℕ → Bool
+here starts counts codes k = all is_card (part_at starts counts codes k)
+
+pub loop-i-init : goal.loop-i-init
+loop-i-init c =
+    (search rules, every_none (here c.args.starts.now c.args.counts.now c.args.codes.now))
+
+pub bounds-starts-i : goal.bounds-starts-i
+bounds-starts-i c = omega (arith, c.requires.starts8)
+
+pub bounds-counts-i : goal.bounds-counts-i
+bounds-counts-i c = omega (arith, c.requires.counts8)
+
+pub overflow_add-end : goal.overflow_add-end
+overflow_add-end c = omega (arith, c.wide.ensures, c.requires.within c.loop-i.i c.loop-i-test.true)
+
+pub slice_bounds-all_of-end : goal.slice_bounds-all_of-end
+slice_bounds-all_of-end c = omega (arith, c.wide.ensures, c.requires.within c.loop-i.i c.loop-i-test.true)
+
+pub returns-then-not-all_of : goal.returns-then-not-all_of
+returns-then-not-all_of c =
+    let f = here c.args.starts.now c.args.counts.now c.args.codes.now in
+    sym (all-concat is_card (part_at c.args.starts.now c.args.counts.now c.args.codes.now) 8
+    ∙ every_fails f 8 c.loop-i.i c.loop-i-test.true (sym (c.all_of.ensures ∙ ap (all is_card) (part_is c.args.starts.now c.args.counts.now c.args.codes.now c.loop-i.i c.wide.result c.wide.ensures)) ∙ c.if-not-all_of.true))
+
+pub loop-i-preserved : goal.loop-i-preserved
+loop-i-preserved c =
+    (search rules, every_more (here c.args.starts.now c.args.counts.now c.args.codes.now) c.loop-i.i c.loop-i.invariant.1 (sym (c.all_of.ensures ∙ ap (all is_card) (part_is c.args.starts.now c.args.counts.now c.args.codes.now c.loop-i.i c.wide.result c.wide.ensures)) ∙ c.if-not-all_of.false))
+
+pub returns : goal.returns
+returns c =
+    let f = here c.args.starts.now c.args.counts.now c.args.codes.now in
+    sym (all-concat is_card (part_at c.args.starts.now c.args.counts.now c.args.codes.now) 8 ∙ every_end f 8 c.loop-i.i c.loop-i.invariant.1 c.loop-i-test.false)

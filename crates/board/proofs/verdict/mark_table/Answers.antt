@@ -1,0 +1,30 @@
+-- What `mark_table` leaves to be shown: piles, then cells, then columns.
+use lib.Dec.{lit<}
+use Rattle.base.specs.Answer.{given}
+use Rattle.board.specs.Table.{held, cards_on}
+use Rattle.board.proofs.Marks.{marks_more, marks_twice, marks_as}
+use borrow.Author.Rules.{rules}
+use Rattle.board.proofs.verdict.mark_table.Goals as goal
+
+pub mark_piles-requires : goal.mark_piles-requires
+mark_piles-requires c = record { seen_bound = lit< tt; good_piles = c.requires.good_piles }
+
+pub returns-in_default : goal.returns-in_default
+unfolding cards_on
+returns-in_default c = marks_twice (marks_as c.mark_piles.ensures c.in_default.is) _
+
+pub mark_cells-requires : goal.mark_cells-requires
+mark_cells-requires c = record { seen_bound = (marks_as c.mark_piles.ensures c.in-Cards.is).below; good_cells = c.requires.good_cells }
+
+pub returns-in_default-mark_cells : goal.returns-in_default-mark_cells
+unfolding cards_on
+returns-in_default-mark_cells c =
+    marks_more (marks_as c.mark_piles.ensures c.in-Cards.is) (marks_twice (marks_as c.mark_cells.ensures c.in_default-mark_cells.is) _)
+
+pub mark_columns-requires : goal.mark_columns-requires
+mark_columns-requires c = record { seen_bound = (marks_as c.mark_cells.ensures c.in-Cards-mark_cells.is).below; parts = c.requires.parts; codes_value = c.requires.codes_value }
+
+pub returns : goal.returns
+unfolding cards_on
+returns c =
+    marks_more (marks_as c.mark_piles.ensures c.in-Cards.is) (marks_more (marks_as c.mark_cells.ensures c.in-Cards-mark_cells.is) c.mark_columns.ensures)

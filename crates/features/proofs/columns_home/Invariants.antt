@@ -1,0 +1,18 @@
+-- What `columns_home` leaves to be shown: a loop that adds the eight columns up.
+use mathlib.Core.Path.{◌≡◌, sym, ap, ◌∙◌}
+use mathlib.Core.Bool.{cond}
+use Prim.Native.Nat.{ℕ, ◌-◌, ◌≤◌}
+use native.Mathlib.Omega.{arith}
+use Rattle.base.specs.Words.{sum}
+use Rattle.base.proofs.Sums.{sum_none, sum_next}
+use Rattle.board.specs.Record.{column_at}
+use Rattle.features.specs.Features.{last_goes_home}
+use Rattle.features.proofs.Blocking.{by_most}
+use borrow.Author.Rules.{rules}
+use Rattle.features.proofs.columns_home.Given as goal
+
+abbrev pub invariant-loop-i : goal.invariant-loop-i
+invariant-loop-i l = (l.i ≤ 8) × (l.n ≤ l.i) × (l.n ≡ sum l.i (λ k. cond (last_goes_home l.foundation (column_at l.counts l.tableau k)) 1 0))
+
+abbrev pub decreases-loop-i : goal.decreases-loop-i
+decreases-loop-i l = 8 - l.i

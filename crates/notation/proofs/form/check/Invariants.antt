@@ -1,0 +1,15 @@
+-- What `check` leaves to be shown: each sign leads on, ends a move, or is wrong.
+use mathlib.Core.Logic.{⊎_elim}
+use Rattle.notation.proofs.Checking.{Checks, no_text, checks_start, checks_on, checks_ends, checks_stop, checks_end, checks_same}
+use mathlib.Core.Path.{sym, ◌∙◌}
+use Prim.Native.Nat.{◌-◌}
+use native.Mathlib.Omega.{arith}
+use borrow.Author.Rules.{rules}
+use lib.ListN.{length}
+use Rattle.notation.proofs.form.check.Given as goal
+
+abbrev pub invariant-loop-at : goal.invariant-loop-at
+invariant-loop-at l = Checks l.text l.due l.moves l.at
+
+abbrev pub decreases-loop-at : goal.decreases-loop-at
+decreases-loop-at l = length l.text - l.at

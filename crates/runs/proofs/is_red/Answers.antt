@@ -1,0 +1,18 @@
+-- What `is_red` leaves to be shown: the colour's case.
+use mathlib.Core.Path.{sym, ap, ◌∙◌}
+use Rattle.base.specs.Answer.{given}
+use Rattle.runs.specs.Follows.{is_red, red}
+use Rattle.card.specs.Suit.{color_of}
+use Rattle.card.specs.declared.Card.{Card}
+use borrow.Author.Rules.{rules}
+use Rattle.runs.proofs.is_red.Goals as goal
+
+pub returns-in-Red : goal.returns-in-Red
+unfolding red
+returns-in-Red c =
+    ap is_red (sym c.in-Red.is ∙ c.color.ensures ∙ ap (λ (k : Card). color_of k.suit) c.card_of.ensures)
+
+pub returns-in-Black : goal.returns-in-Black
+unfolding red
+returns-in-Black c =
+    ap is_red (sym c.in-Black.is ∙ c.color.ensures ∙ ap (λ (k : Card). color_of k.suit) c.card_of.ensures)

@@ -1,0 +1,12 @@
+-- What `deck_of` leaves to be shown: a card at each turn, and the pack that is left.
+use mathlib.Core.Path.{refl}
+use Prim.Native.Nat.{◌-◌}
+use Rattle.shuffle.proofs.Drawing.{Drawing, draw_begin, place_below_lem, draw_next, draw_end}
+use borrow.Author.Rules.{rules}
+use Rattle.shuffle.proofs.deck_of.Given as goal
+
+abbrev pub invariant-loop-dealt : goal.invariant-loop-dealt
+invariant-loop-dealt l = Drawing l.number l.deck l.pack l.state l.dealt
+
+abbrev pub decreases-loop-dealt : goal.decreases-loop-dealt
+decreases-loop-dealt l = 52 - l.dealt
