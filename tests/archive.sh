@@ -85,6 +85,9 @@ for trouble in unproved unproved-export; do
 done
 LIBRARIES=built
 export LIBRARIES
+build none > /dev/null || wrong "it fails where a library is to be built: $(cat "$folder/said")"
+[ -e "$folder/clone/libraries" ] || wrong "a library that is not built is not proved"
+mkdir -p "$folder/clone/crates/low/out/rlib/low.rlib" "$folder/clone/crates/corbelnib/out/rlib/corbelnib.rlib"
 made=$(build none) || wrong "it fails over libraries that are built: $(cat "$folder/said")"
 [ -s "$made/libcorbelnib.a" ] || wrong "no library over libraries that are built"
 [ ! -e "$folder/clone/libraries" ] || wrong "libraries that are built are proved again"

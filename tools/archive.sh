@@ -3,7 +3,7 @@
 # `rattle build`, which builds what it has proved and nothing else, is given a toolchain that is links to the kit's but for its `clang`, a script that
 # keeps the module that it is given and then does what it was asked. Nothing hangs on the module: where none was kept, the library is there without it.
 # What crates/corbelnib_c stands on is proved and built by `rt lib` first, and what is proved already as it stands is not proved again.
-# LIBRARIES=built: the libraries in the crates' out/ are taken as they are. That is for .ci/run, where rt ci has just made each of them.
+# LIBRARIES=built: the libraries in the crates' out/ are taken as they are, if none is missing. That is for .ci/run, where rt ci has just made each.
 set -eu
 cd "$(dirname "$0")/.."
 root=$(pwd)
@@ -41,6 +41,9 @@ library() { # TOOLCHAIN
 
 rm -rf "$made"
 mkdir -p "$made"
+for crate in $(sh tools/reached.sh corbelnib_c); do
+    [ -d "crates/$crate/out/rlib/$crate.rlib" ] || LIBRARIES=
+done
 if [ "${LIBRARIES:-}" != built ]; then
     (cd crates/corbelnib && rt lib) >&2
 fi
