@@ -1,5 +1,6 @@
 // What knows no cards: a byte as an index, numbers in order, lent memory cleared and written.
 #![tactic(auto)]
+
 ghost use Rattle.std.specs.Prelude.{◌≡◌};
 
 pub mod blank;

@@ -14,7 +14,7 @@ use Rattle.board.specs.Record.{shapely, examined, shown}
 use Rattle.board.specs.declared.Board.{Board}
 use Rattle.moves.specs.Record.{possible, move_of, move_asked}
 use Rattle.moves.specs.Play.{after_move}
-use Rattle.moves.specs.Causes.{Cause, own_column, source_empty, too_many, other_card, over_limit, no_run_lem, no_fit, cell_full, not_next, cause_number, ruling, played}
+use Rattle.moves.specs.Causes.{Cause, own_column, source_empty, too_many, other_card, over_limit, no_run, no_fit, cell_full, not_next, cause_number, ruling, played}
 use Rattle.moves.specs.declared.Move.{Move}
 use Rattle.moves.proofs.Ruling.{ruled_cause}
 use Rattle.replay.specs.Step.{recorded, played_on, stepped}
@@ -96,7 +96,7 @@ in_moves source_empty = refl
 in_moves too_many = refl
 in_moves other_card = refl
 in_moves over_limit = refl
-in_moves no_run_lem = refl
+in_moves no_run = refl
 in_moves no_fit = refl
 in_moves cell_full = refl
 in_moves not_next = refl

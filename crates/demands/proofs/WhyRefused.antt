@@ -19,7 +19,7 @@ use Rattle.board.specs.Inner.{Sound}
 use Rattle.board.specs.declared.Board.{Board}
 use Rattle.board.proofs.Soundness.{sound, sound_sized}
 use Rattle.moves.specs.Record.{possible, move_of, move_asked}
-use Rattle.moves.specs.Causes.{Cause, own_column, source_empty, too_many, other_card, over_limit, no_run_lem, no_fit, cell_full, not_next, cause_number, ruling}
+use Rattle.moves.specs.Causes.{Cause, own_column, source_empty, too_many, other_card, over_limit, no_run, no_fit, cell_full, not_next, cause_number, ruling}
 use Rattle.moves.specs.Written.{list_room}
 use Rattle.moves.proofs.Ruling.{first-ruled, ruled-first}
 use Rattle.replay.specs.Step.{stepped, move_made}
@@ -53,7 +53,7 @@ large source_empty = omega arith
 large too_many = omega arith
 large other_card = omega arith
 large over_limit = omega arith
-large no_run_lem = omega arith
+large no_run = omega arith
 large no_fit = omega arith
 large cell_full = omega arith
 large not_next = omega arith

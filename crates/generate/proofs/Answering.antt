@@ -4,8 +4,6 @@ use mathlib.Core.List.{List, [], ◌∷◌}
 use Prim.Native.Nat.{ℕ, ◌+◌, ◌*◌, ◌<◌, ◌≤◌}
 use native.Mathlib.Nat.{zero-add}
 use borrow.Author.Tests.{le-leb, lt-leb}
-use types.Run.{OneOf}
-use denote.Enum.Declared.{tag_of}
 use lib.ListN.{length}
 use Rattle.base.specs.Answer.{Answer, given, refused}
 use Rattle.board.specs.Table.{Table}
@@ -18,18 +16,12 @@ use Rattle.board.specs.declared.Examined.TheVariants as board
 use Rattle.moves.specs.declared.Move.{Move}
 use Rattle.questions.specs.declared.CountAnswer.TheVariants.{Count, Refused}
 use Rattle.questions.proofs.Asking.{after_no, after_yes}
-use Rattle.play.proofs.Single.{no_run_lem}
 use Rattle.generate.specs.Found.{found_from}
 use Rattle.moves.specs.Written.{Adds}
 use Rattle.generate.specs.Asked.{record_room, found_asked, room_after, Finds}
 use Rattle.generate.specs.declared.Way.{Way}
-use Rattle.generate.specs.declared.Way.TheVariants.{ColumnToColumn}
-use Rattle.generate.specs.contracts.Way.{the_type}
 
 -- ---- the kind is known
-
-pub other_kind : (w : Way) → OneOf (1 ∷ 2 ∷ 3 ∷ 4 ∷ 5 ∷ []) (tag_of the_type w) → w ≡ ColumnToColumn → ⊥
-other_kind w k e = no_run_lem (subst (λ (v : Way). OneOf (1 ∷ 2 ∷ 3 ∷ 4 ∷ 5 ∷ []) (tag_of the_type v)) e k)
 
 module _ (t : Table) (i : ℕ) {w v : Way} (e : w ≡ v) where
   pub kind_room : (n : ℕ) {lent : ℕ} → (n + length (found_from t w i)) * 5 ≤ lent → (n + length (found_from t v i)) * 5 ≤ lent

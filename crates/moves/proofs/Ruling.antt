@@ -14,7 +14,7 @@ use Rattle.board.specs.Verdict.{Verdict, fine, after}
 use Rattle.runs.specs.Run.{is_run}
 use Rattle.moves.specs.Move.{from, to, count, card}
 use Rattle.moves.specs.Play.{there, hand, after_move, elsewhere, within_limit, fits_column, cell_free, next_home, takes, allowed}
-use Rattle.moves.specs.Causes.{Cause, own_column, source_empty, too_many, other_card, over_limit, no_run_lem, no_fit, cell_full, not_next}
+use Rattle.moves.specs.Causes.{Cause, own_column, source_empty, too_many, other_card, over_limit, no_run, no_fit, cell_full, not_next}
 use Rattle.moves.specs.Causes.{causes, cause_number, passes, first_of, ruling, played, Pass, First}
 use Rattle.moves.specs.Inner.{landing}
 use Rattle.moves.specs.declared.Move.{Move}
@@ -117,7 +117,7 @@ cause_by n =
     cond (eqb n 30) own_column
     (cond (eqb n 33) source_empty
     (cond (eqb n 35) too_many
-    (cond (eqb n 34) other_card (cond (eqb n 36) over_limit (cond (eqb n 37) no_run_lem (cond (eqb n 38) no_fit (cond (eqb n 39) cell_full not_next)))))))
+    (cond (eqb n 34) other_card (cond (eqb n 36) over_limit (cond (eqb n 37) no_run (cond (eqb n 38) no_fit (cond (eqb n 39) cell_full not_next)))))))
 
 by_number : (c : Cause) → cause_by (cause_number c) ≡ c
 unfolding cause_by
@@ -126,7 +126,7 @@ by_number source_empty = refl
 by_number too_many = refl
 by_number other_card = refl
 by_number over_limit = refl
-by_number no_run_lem = refl
+by_number no_run = refl
 by_number no_fit = refl
 by_number cell_full = refl
 by_number not_next = refl

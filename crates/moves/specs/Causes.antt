@@ -10,11 +10,11 @@ use Rattle.moves.specs.Play.{there, hand, after_move, elsewhere, within_limit, f
 use Rattle.moves.specs.declared.Move.{Move}
 
 pub data Cause : Type 0 where
-  own_column source_empty too_many other_card over_limit no_run_lem no_fit cell_full not_next : Cause
+  own_column source_empty too_many other_card over_limit no_run no_fit cell_full not_next : Cause
 
 -- the order in which they are looked at
 unfoldable pub causes : List Cause
-causes = own_column ∷ source_empty ∷ too_many ∷ other_card ∷ over_limit ∷ no_run_lem ∷ no_fit ∷ cell_full ∷ not_next ∷ []
+causes = own_column ∷ source_empty ∷ too_many ∷ other_card ∷ over_limit ∷ no_run ∷ no_fit ∷ cell_full ∷ not_next ∷ []
 
 -- SCOPE.md's number of each
 abbrev pub cause_number : Cause → ℕ
@@ -23,7 +23,7 @@ cause_number source_empty = 33
 cause_number too_many = 35
 cause_number other_card = 34
 cause_number over_limit = 36
-cause_number no_run_lem = 37
+cause_number no_run = 37
 cause_number no_fit = 38
 cause_number cell_full = 39
 cause_number not_next = 40
@@ -36,7 +36,7 @@ passes t m source_empty = leb 1 (length (there t (from m)))
 passes t m too_many = leb (count m) (length (there t (from m)))
 passes t m other_card = eqb (get_or (hand t m) 0 0) (code_of (card m))
 passes t m over_limit = within_limit t (from m) (to m) (count m)
-passes t m no_run_lem = is_run (hand t m)
+passes t m no_run = is_run (hand t m)
 passes t m no_fit = fits_column t (to m) (code_of (card m))
 passes t m cell_full = cell_free t (to m)
 passes t m not_next = next_home t (to m) (code_of (card m))

@@ -1,13 +1,9 @@
--- Moves of one card: every kind but a run's, which is variant 0; and why such a move is refused.
+-- Moves of one card: every kind but a run's; and why such a move is refused.
 use mathlib.Core.Path.{◌≡◌, refl, sym, ap, ◌∙◌}
 use mathlib.Core.Bool.{true}
-use mathlib.Core.List.{[], ◌∷◌}
-use mathlib.Core.Logic.{⊎_elim}
 use Prim.Native.Nat.{ℕ, ◌≤◌}
 use native.Mathlib.Omega.{arith}
 use lib.ListN.{length, get_or}
-use types.Run.{OneOf}
-use denote.Enum.Declared.{tag_of}
 use Rattle.base.specs.Words.{all}
 use Rattle.base.specs.Answer.{refused}
 use Rattle.card.specs.Card.{is_card, is_value, code_of}
@@ -21,7 +17,6 @@ use Rattle.board.proofs.Fair.{shows_fair}
 use Rattle.questions.specs.Questions.{top_of}
 use Rattle.questions.specs.declared.Top.{Top}
 use Rattle.questions.specs.declared.Top.TheVariants.{Is, Empty}
-use Rattle.moves.specs.contracts.Move.{the_type}
 use Rattle.moves.specs.Move.{from, to, count, card, sayable}
 use Rattle.moves.specs.Play.{there, hand, elsewhere, within_limit}
 use Rattle.moves.specs.Causes.{ruling}
@@ -34,12 +29,9 @@ use Rattle.play.proofs.Tops.{top_empty, some_there, top_value_lem, top_code_lem}
 use Rattle.moves.specs.declared.Move.{Move}
 use Rattle.moves.specs.declared.Move.TheVariants.{TableauToTableau, TableauToFoundation, TableauToFreeCell, FreeCellToTableau, FreeCellToFoundation, FoundationToTableau}
 
-pub no_run_lem : OneOf (1 ∷ 2 ∷ 3 ∷ 4 ∷ 5 ∷ []) 0 → ⊥
-no_run_lem k = ⊎_elim (λ e. omega arith) (⊎_elim (λ e. omega arith) (⊎_elim (λ e. omega arith) (⊎_elim (λ e. omega arith) (λ e. omega arith)))) k
-
-pub of_one : (m : Move) → OneOf (1 ∷ 2 ∷ 3 ∷ 4 ∷ 5 ∷ []) (tag_of the_type m)
+pub of_one : (m : Move) → ((s d n : ℕ) (c : Card) → m ≡ TableauToTableau s d n c → ⊥)
     → (count m ≡ 1) × ((elsewhere (from m) (to m) ≡ true) × ((t : Table) → within_limit t (from m) (to m) (count m) ≡ true))
-of_one (TableauToTableau s d n c) k = absurd (no_run_lem k)
+of_one (TableauToTableau s d n c) k = absurd (k s d n c refl)
 of_one (TableauToFoundation s c) k = (refl, (refl, λ t. refl))
 of_one (TableauToFreeCell s i c) k = (refl, (refl, λ t. refl))
 of_one (FreeCellToTableau i d c) k = (refl, (refl, λ t. refl))

@@ -1,4 +1,5 @@
 // One move from its record, and a list of them (after freecell/board.rs, `FreeCellMove::apply`, changed: NOTICE).
+#![tactic(auto)]
 ghost use Rattle.std.specs.Prelude.{◌≡◌, true, ◌%◌, length};
 ghost use Rattle.board.specs.Record.{shown, laid};
 ghost use Rattle.board.specs.Inner.{Sound};

@@ -1,4 +1,5 @@
 // What a written move means on a board, and how a move is written there; what is answered of a line of them.
+#![tactic(auto)]
 use board::Refusal;
 use moves::Move;
 

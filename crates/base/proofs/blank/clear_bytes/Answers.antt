@@ -1,8 +1,5 @@
 -- What `clear_bytes` leaves to be shown: the first bytes are clear.
-use Prim.Native.Nat.{◌-◌}
-use lib.ListN.{length}
-use Rattle.base.proofs.Clearing.{Clearing, clearing_start, clearing_turn, clearing_end}
-use borrow.Author.Rules.{rules}
+use Rattle.base.proofs.Clearing.{clearing_start, clearing_turn, clearing_end}
 use Rattle.base.proofs.blank.clear_bytes.Goals as goal
 
 pub loop-byte-init : goal.loop-byte-init

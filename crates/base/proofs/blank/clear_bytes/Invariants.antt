@@ -1,8 +1,7 @@
 -- What `clear_bytes` leaves to be shown: the first bytes are clear.
 use Prim.Native.Nat.{◌-◌}
 use lib.ListN.{length}
-use Rattle.base.proofs.Clearing.{Clearing, clearing_start, clearing_turn, clearing_end}
-use borrow.Author.Rules.{rules}
+use Rattle.base.proofs.Clearing.{Clearing}
 use Rattle.base.proofs.blank.clear_bytes.Given as goal
 
 abbrev pub invariant-loop-byte : goal.invariant-loop-byte

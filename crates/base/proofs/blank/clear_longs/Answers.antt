@@ -1,8 +1,5 @@
 -- What `clear_longs` leaves to be shown: the first longs are clear.
-use Prim.Native.Nat.{◌-◌}
-use lib.ListN.{length}
-use Rattle.base.proofs.Clearing.{Clearing, clearing_start, clearing_turn, clearing_end}
-use borrow.Author.Rules.{rules}
+use Rattle.base.proofs.Clearing.{clearing_start, clearing_turn, clearing_end}
 use Rattle.base.proofs.blank.clear_longs.Goals as goal
 
 pub loop-long-init : goal.loop-long-init

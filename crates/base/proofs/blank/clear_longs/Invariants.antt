@@ -1,8 +1,7 @@
 -- What `clear_longs` leaves to be shown: the first longs are clear.
 use Prim.Native.Nat.{◌-◌}
 use lib.ListN.{length}
-use Rattle.base.proofs.Clearing.{Clearing, clearing_start, clearing_turn, clearing_end}
-use borrow.Author.Rules.{rules}
+use Rattle.base.proofs.Clearing.{Clearing}
 use Rattle.base.proofs.blank.clear_longs.Given as goal
 
 abbrev pub invariant-loop-long : goal.invariant-loop-long

@@ -1,8 +1,5 @@
 -- What `clear_words` leaves to be shown: the first words are clear.
-use Prim.Native.Nat.{◌-◌}
-use lib.ListN.{length}
-use Rattle.base.proofs.Clearing.{Clearing, clearing_start, clearing_turn, clearing_end}
-use borrow.Author.Rules.{rules}
+use Rattle.base.proofs.Clearing.{clearing_start, clearing_turn, clearing_end}
 use Rattle.base.proofs.blank.clear_words.Goals as goal
 
 pub loop-word-init : goal.loop-word-init

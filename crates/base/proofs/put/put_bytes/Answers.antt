@@ -1,9 +1,6 @@
 -- What `put_bytes` leaves to be shown: a loop that copies byte by byte.
-use Prim.Native.Nat.{◌-◌}
-use lib.ListN.{length}
 use native.Mathlib.Omega.{arith}
-use Rattle.base.proofs.Putting.{Copied, copy_start, copy_long, copy_more, copy_end}
-use borrow.Author.Rules.{rules}
+use Rattle.base.proofs.Putting.{copy_start, copy_long, copy_more, copy_end}
 use Rattle.base.proofs.put.put_bytes.Goals as goal
 
 pub loop-k-init : goal.loop-k-init

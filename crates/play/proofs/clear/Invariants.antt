@@ -1,0 +1,16 @@
+-- What `clear` leaves to be shown: place by place.
+use mathlib.Core.Path.{◌≡◌, subst}
+use Prim.Native.Nat.{ℕ, ◌-◌, ◌≤◌}
+use native.Mathlib.Omega.{arith}
+use lib.ListN.{length}
+use Rattle.play.specs.Change.{Cleared}
+use Rattle.play.proofs.Changing.{cleared_none, cleared_more}
+use borrow.Author.Rules.{rules}
+use Rattle.board.specs.Record.{tableau_room}
+use Rattle.play.proofs.clear.Given as goal
+
+abbrev pub invariant-loop-k : goal.invariant-loop-k
+invariant-loop-k l = (l.k ≤ l.n) × (length l.initial.tableau ≡ tableau_room) × Cleared l.initial.tableau l.tableau l.at l.k
+
+abbrev pub decreases-loop-k : goal.decreases-loop-k
+decreases-loop-k l = l.n - l.k

@@ -1,0 +1,13 @@
+-- What `features_after` leaves to be shown: the board after the move is sound.
+use Rattle.priority.proofs.After.{sound_then, features_then, bounded_then}
+use borrow.Author.Rules.{rules}
+use Rattle.priority.proofs.features_after.Goals as goal
+
+pub apply_to-requires : goal.apply_to-requires
+apply_to-requires c = c.requires
+
+pub compute_features-requires : goal.compute_features-requires
+compute_features-requires c = sound_then c.requires c.apply_to.ensures
+
+pub returns : goal.returns
+returns c = record { value = features_then c.requires c.apply_to.ensures c.compute_features.ensures; bounded = bounded_then c.requires c.apply_to.ensures c.compute_features.ensures }

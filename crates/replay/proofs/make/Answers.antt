@@ -1,0 +1,28 @@
+-- What `make` leaves to be shown: the first cause against the move, or it is played.
+use mathlib.Core.Path.{sym, ap, ◌∙◌, subst}
+use Rattle.base.specs.Answer.{given}
+use Rattle.board.specs.Record.{shown, laid}
+use Rattle.board.specs.Refusal.{examined_told}
+use Rattle.board.specs.Inner.{Sound}
+use Rattle.board.specs.declared.Board.{Board}
+use Rattle.moves.proofs.Ruling.{fine-allowed}
+use Rattle.replay.proofs.Stepping.{moves_yes, moves_no, made_yes, made_no, became, sound_after}
+use borrow.Author.Rules.{rules}
+use Rattle.replay.proofs.make.Goals as goal
+
+pub ruled_at-requires : goal.ruled_at-requires
+ruled_at-requires c = record { sound = c.requires.sound; m_value = c.requires.m_value }
+
+pub returns-in-Refused : goal.returns-in-Refused
+returns-in-Refused c = let b = laid c.args.cells.now c.args.foundation.now c.args.counts.now c.args.tableau.now in
+    record { moves = moves_no {why = c.in-Refused.why} (made_no b c.args.m (sym c.ruled_at.ensures ∙ ap examined_told c.in-Refused.is)); sound_2 = c.requires.sound }
+
+pub apply_to-requires : goal.apply_to-requires
+apply_to-requires c = let b = laid c.args.cells.now c.args.foundation.now c.args.counts.now c.args.tableau.now in
+    record { sound = c.requires.sound; said = c.requires.m_value; allows = fine-allowed (shown b) c.args.m (sym c.ruled_at.ensures ∙ ap examined_told c.in_default.is) }
+
+pub returns : goal.returns
+returns c = let b = laid c.args.cells.now c.args.foundation.now c.args.counts.now c.args.tableau.now in
+    let ok = fine-allowed (shown b) c.args.m (sym c.ruled_at.ensures ∙ ap examined_told c.in_default.is) in
+    let same = became c.apply_to.ensures in
+    record { moves = moves_yes (made_yes b c.args.m ok ∙ ap (λ (d : Board). given d) same); sound_2 = subst Sound same (sound_after b c.requires.sound c.args.m c.requires.m_value ok) }

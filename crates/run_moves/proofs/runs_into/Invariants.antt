@@ -1,0 +1,14 @@
+-- What `runs_into` leaves to be shown: length after length.
+use Prim.Native.Nat.{◌-◌}
+use Rattle.board.specs.Record.{shown, laid}
+use Rattle.generate.specs.Inner.{tried_run}
+use Rattle.generate.proofs.Writing.{Walked, walk_start, walk_room, walk_on, walk_long, walk_end}
+use Rattle.generate.proofs.Columns.{reaches}
+use borrow.Author.Rules.{rules}
+use Rattle.run_moves.proofs.runs_into.Given as goal
+
+abbrev pub invariant-loop-k : goal.invariant-loop-k
+invariant-loop-k l = Walked (tried_run (shown (laid l.cells l.foundation l.counts l.tableau)) l.i l.j) l.last l.initial.out l.n l.out l.made l.k
+
+abbrev pub decreases-loop-k : goal.decreases-loop-k
+decreases-loop-k l = l.last - l.k

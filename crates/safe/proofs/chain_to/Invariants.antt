@@ -1,0 +1,14 @@
+-- What `chain_to` leaves to be shown: the moves made, then what is left of the chain.
+use mathlib.Core.Path.{sym, ◌∙◌}
+use Prim.Native.Nat.{◌-◌}
+use native.Mathlib.Omega.{arith}
+use Rattle.safe.proofs.Handing.{Chaining, chaining_start, chain_ready, chaining_turn, chaining_stop, chaining_full}
+use borrow.Author.Rules.{rules}
+use Rattle.board.specs.Record.{laid}
+use Rattle.safe.proofs.chain_to.Given as goal
+
+abbrev pub invariant-loop-moves : goal.invariant-loop-moves
+invariant-loop-moves l = Chaining (laid l.initial.cells l.initial.foundation l.initial.counts l.initial.tableau) (laid l.cells l.foundation l.counts l.tableau) l.moves
+
+abbrev pub decreases-loop-moves : goal.decreases-loop-moves
+decreases-loop-moves l = 52 - l.moves
