@@ -1,4 +1,5 @@
 // A node's children, one after the other (after freecell/solver.rs, the loop over `expansions`, changed: NOTICE).
+#![tactic(auto)]
 ghost use Rattle.std.specs.Prelude.{◌≡◌, ◌<◌, ◌≤◌};
 ghost use Rattle.board.specs.Record.{shown, laid};
 ghost use Rattle.costs.specs.Entries.{used};

@@ -1,4 +1,5 @@
 // What the search counts beside the lent memory, and how its steps end (after freecell/solver.rs, changed: NOTICE).
+#![tactic(auto)]
 
 // Nodes born, nodes that wait, the best node and its raised progress score, and the pops.
 #[derive(Clone, Copy)]

@@ -88,6 +88,7 @@ module _ (G : Game) (self : (b : G.Board) → G.same b b ≡ true) (Born : Node 
 
   queued_others : (m k : Node G) (l : List (Node G)) → among k l → among k (queued G m l)
   unfolding queued
+  queued_others m k [] i = elim i [ ]
   queued_others m k (n ∷ l) i = by (before G m n) i (queued_others m k l)
     where
       by : (t : Bool) → among k (n ∷ l) → (among k l → among k (queued G m l)) → among k (cond t (m ∷ n ∷ l) (n ∷ queued G m l))
