@@ -45,8 +45,9 @@ all: corbelnib
 corbelnib: $(build)/corbelnib
 	ln -sf $(build)/corbelnib corbelnib
 
-# proving takes minutes: only what the library is made of sets it off, and what it needs is looked for first
-rattle = $(shell find crates -name '*.rt')
+# proving takes minutes: only what the library is made of sets it off, and what it needs is looked for first (out/ is what rt makes)
+rattle = $(shell find crates -name out -prune -o -name '*.rt' -print)
+proofs = $(shell find crates -name out -prune -o -name '*.antt' -print)
 ifdef CORBELNIB_ARCHIVE
 $(archive): $(CORBELNIB_ARCHIVE)/libcorbelnib.a
 	@CC="$(CC)" sh tools/ready.sh compiler
@@ -54,7 +55,7 @@ $(archive): $(CORBELNIB_ARCHIVE)/libcorbelnib.a
 	cp $< $@
 	$(call with_module,$(CORBELNIB_ARCHIVE))
 else
-$(archive): tools/archive.sh crates.txt $(rattle) $(shell find crates -name '*.antt')
+$(archive): tools/archive.sh crates.txt $(rattle) $(proofs)
 	@CC="$(CC)" sh tools/ready.sh
 	mkdir -p $(build)
 	folder=$$(sh tools/prove.sh) && cp "$$folder/libcorbelnib.a" $@ && $(call with_module,$$folder)
@@ -197,6 +198,6 @@ uninstall:
 	rm -f $(DESTDIR)$(LIBDIR)/pkgconfig/corbelnib.pc $(DESTDIR)$(MANDIR)/man1/corbelnib.1
 
 clean:
-	rm -rf $(build) $(sanitized) $(straight) $(unproved) target/unproved corbelnib corbelnib-unproved
+	rm -rf $(build) $(sanitized) $(straight) $(unproved) target/unproved target/staticlib corbelnib corbelnib-unproved
 
 .PHONY: all unproved syntax check check-house beside_the_original check-sanitized check-rising check-masters check-fc-solve install uninstall clean

@@ -2,8 +2,8 @@
  *
  * Link with libcorbelnib.a (README says how it is built). No function allocates, blocks, keeps anything between calls or traps;
  * each ends. Two threads may call at once if they lend different memory. The archive wants memcpy and memset from outside, and
- * nothing else. Stack, measured on aarch64: corbelnib_judge and corbelnib_season 13 KB, corbelnib_candidates 7 KB, every other function under 3 KB
- * (docs/MEMORY.md).
+ * nothing else. Stack, measured on aarch64 of an older build: corbelnib_judge and corbelnib_season 13 KB, corbelnib_candidates 7 KB,
+ * every other function under 3 KB (docs/MEMORY.md).
  *
  * The header is C99, and C++11: it compiles with -std=c99 -pedantic.
  *

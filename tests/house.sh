@@ -46,16 +46,18 @@ mkdir -p "$copy/tools"
 cp crates.txt "$copy"
 cp tools/prove.sh tools/reached.sh "$copy/tools"
 cat > "$copy/tools/archive.sh" << 'END'
-{ echo 'rt: base proved (unchanged since it was last proved)'; echo 'fn card::x: proved'; echo 'rt: card proved (7 s)'; } >&2
-if [ -n "${FAILS:-}" ]; then echo 'rt: runs NOT PROVED (exit 1, 2 s)' >&2; exit 1; fi
-echo 'rt: target/staticlib/libcorbelnib.a has the functions' >&2
+{ echo 'rt: chose --jobs 2 for base'; echo 'fn base::x: proved'; echo 'logic=proved functions=1'; } >&2
+{ echo 'rt: chose --jobs 2 for card'; echo 'fn card::x: proved'; echo 'logic=proved functions=2'; } >&2
+if [ -n "${FAILS:-}" ]; then { echo 'rt: chose --jobs 2 for runs'; echo 'logic=not-proved'; } >&2; exit 1; fi
+echo 'logic=proved functions=27' >&2
+echo 'tools/archive.sh: target/staticlib/libcorbelnib.a has the functions of crates/corbelnib_c' >&2
 echo a-folder
 END
-total=$(($(sh tools/reached.sh corbelnib | wc -l) + 1))
+total=$(($(sh tools/reached.sh corbelnib_c | wc -l) + 1))
 [ "$(sh "$copy/tools/prove.sh" 2> "$scratch/said")" = a-folder ] || wrong 'tools/prove.sh does not print the folder'
-grep -qx "crate 2 of $total: card, 7 s" "$scratch/said" || wrong 'tools/prove.sh does not count the crates:' "$(cat "$scratch/said")"
-grep -q "^crate $total of $total: corbelnib; all proved" "$scratch/said" || wrong 'tools/prove.sh does not tell the end'
-[ "$(wc -l < "$scratch/said")" = 3 ] || wrong 'tools/prove.sh tells more than that' "$(cat "$scratch/said")"
+grep -q "^card is proved, [0-9]* s; it is number 2 of at most $total\$" "$scratch/said" || wrong 'tools/prove.sh does not count the crates:' "$(cat "$scratch/said")"
+grep -q '^corbelnib_c is proved, and the library is built; all took ' "$scratch/said" || wrong 'tools/prove.sh does not tell the end'
+[ "$(wc -l < "$scratch/said")" = 4 ] || wrong 'tools/prove.sh tells more than that' "$(cat "$scratch/said")"
 FAILS=yes sh "$copy/tools/prove.sh" > "$scratch/out" 2> "$scratch/said" && wrong 'tools/prove.sh ends well where a crate is not proved'
 grep -q '^runs NOT PROVED' "$scratch/said" || wrong 'tools/prove.sh does not say which crate is not proved'
 
@@ -104,7 +106,7 @@ if [ -s "$scratch/stand-in/started" ] && kill -0 "$(cat "$scratch/stand-in/start
     kill -s KILL "$(cat "$scratch/stand-in/started")"
 fi
 
-# The command without proofs says so wherever it says anything, answers the same, and is not installed. It was made on x86-64, and is tried there.
+# The command without proofs says so wherever it says anything, answers the same, and is not installed.
 if command -v rt > /dev/null && [ "$(uname -m)" = x86_64 ]; then
     # with whatever kit is here: that another than the pinned one is refused is tried above
     CORBELNIB_KIT=$(rt version) make -s unproved > "$scratch/said" 2>&1 || wrong 'make unproved fails:' "$(cat "$scratch/said")"

@@ -49,7 +49,7 @@ one sheet is not both of corbelnib_add
 keep 0, 2 and 4 as they were, for one value of `partial`
 A table that judges after each touch lends 1 MB
 END
-grep -qF 'rt try oneboard && cat crates/oneboard/stdout' README.md || wrong "README.md does not show what oneboard prints"
+grep -qF '(cd crates/oneboard && rt try < stdin)' README.md || wrong "README.md does not show what oneboard prints"
 
 [ "$failed" -eq 0 ] && echo "papers: the same everywhere"
 [ "$failed" -eq 0 ]

@@ -1,74 +1,66 @@
 #!/bin/sh
-# Builds libcorbelnib.a for this machine and prints the folder that it is in. Beside it lies the proved module of which it was compiled,
-# module.bc: rt is run with a kit that is links to the real one but for its `clang`, a script that keeps the module that it is given and
-# then does what it was asked. rt compiles for x86-64; on another machine the same module is compiled for it. On x86-64 nothing hangs on
-# the module: where none was kept, the library is there without it.
+# Builds libcorbelnib.a and prints the folder that it is in, target/staticlib. Beside it lies the proved module of which it was compiled, module.bc:
+# `rattle build`, which builds what it has proved and nothing else, is given a toolchain that is links to the kit's but for its `clang`, a script that
+# keeps the module that it is given and then does what it was asked. Nothing hangs on the module: where none was kept, the library is there without it.
+# What crates/corbelnib_c stands on is proved and built by `rt lib` first, and what is proved already as it stands is not proved again.
+# LIBRARIES=built: the libraries in the crates' out/ are taken as they are, if none is missing. That is for .ci/run, where rt ci has just made each.
 set -eu
 cd "$(dirname "$0")/.."
 root=$(pwd)
-machine=$(uname -m)
-kit=${RATTLE_HOME:-$(dirname "$(dirname "$(readlink -f "$(command -v rt)")")")}
-host=$root/target/host
-tools=on/$machine/toolchain
+kit=$(dirname "$(dirname "$(readlink -f "$(command -v rt)")")")
+made=$root/target/staticlib
+# links stand outside of the checkout: rt ci refuses a checkout that has them
+room=$(mktemp -d)
+trap 'rm -rf "$room"' EXIT
 
-# All entries of a folder but one, as links.
-links() { # FROM TO BUT
-    mkdir -p "$2" && for entry in "$1"/*; do
-        [ "${entry##*/}" = "$3" ] || ln -sfn "$entry" "$2/" || return 1
-    done
-}
-
-# The kit with a clang that keeps the module.
+# The toolchain with a clang that keeps the module.
 keeping() {
-    links "$kit" "$host/kit" on && links "$kit/on/$machine" "$host/kit/on/$machine" toolchain &&
-        links "$kit/$tools" "$host/kit/$tools" bin && links "$kit/$tools/bin" "$host/kit/$tools/bin" clang &&
-        cat > "$host/kit/$tools/bin/clang" << END && chmod +x "$host/kit/$tools/bin/clang"
+    mkdir -p "$room/bin" && ln -s "$kit/toolchain/lib" "$room/lib" && for tool in "$kit/toolchain/bin"/*; do
+        [ "${tool##*/}" = clang ] || ln -s "$tool" "$room/bin/" || return 1
+    done && cat > "$room/bin/clang" << END && chmod +x "$room/bin/clang"
 #!/bin/sh
 for word in "\$@"; do
-    case \$word in *.bc) cat "\$word" > '$host/module.bc' ;; esac
+    case \$word in *.bc) cat "\$word" > '$room/module.bc' ;; esac
 done
-exec '$kit/$tools/bin/clang' "\$@"
+exec '$kit/toolchain/bin/clang' "\$@"
 END
 }
 
-# What lies below is proved first, as many crates at a time as there are processors: rt staticlib takes one after the other. It has the last word.
-below() {
-    crates=$(sh tools/reached.sh corbelnib 2> /dev/null) || return 0
-    # shellcheck disable=SC2086 # names of crates
-    [ -z "$crates" ] || rt check $crates >&2 || true
+# Proves crates/corbelnib_c over the libraries that are built, and builds it, as rt lib does.
+library() { # TOOLCHAIN
+    set -- --toolchain "$1" --extern "std=$kit/rlibs/std.rlib" -L "dependency=$kit/rlibs"
+    for crate in $(sed -n 's/^corbelnib_c staticlib: *//p' crates.txt); do
+        set -- "$@" --extern "$crate=$root/crates/$crate/out/rlib/$crate.rlib"
+    done
+    for crate in $(sh tools/reached.sh corbelnib_c); do
+        set -- "$@" -L "dependency=$root/crates/$crate/out/rlib"
+    done
+    (cd crates/corbelnib_c && "$kit/bin/rattle" build --crate-name corbelnib_c src/lib.rt "$@" --antt-project "$kit/rattle/logic/antt-project.json" \
+        --logic-built "$kit/logic_built" --links corbelnib_c= --crate-type staticlib --backend llvm -o "$made/libcorbelnib.a") >&2
 }
 
-# rt with that kit; on x86-64 with the real one, if the other is not to be had or is not taken (2: the toolchain failed).
-library() {
-    status=2
-    if keeping; then
-        status=0
-        RATTLE_HOME=$host/kit rt staticlib corbelnib >&2 || status=$?
-    fi
-    if [ "$status" -eq 2 ] && [ "$machine" = x86_64 ]; then
-        rm -f "$host/module.bc"
-        status=0
-        rt staticlib corbelnib >&2 || status=$?
-    fi
-    return "$status"
-}
-
-rm -f "$host/module.bc" "$root/target/staticlib/module.bc"
-below
-library
-if [ "$machine" = x86_64 ]; then
-    if [ -s "$host/module.bc" ]; then
-        cp "$host/module.bc" "$root/target/staticlib/module.bc" || rm -f "$root/target/staticlib/module.bc"
-    fi
-    echo "$root/target/staticlib"
-    exit
+rm -rf "$made"
+mkdir -p "$made"
+for crate in $(sh tools/reached.sh corbelnib_c); do
+    [ -d "crates/$crate/out/rlib/$crate.rlib" ] || LIBRARIES=
+done
+if [ "${LIBRARIES:-}" != built ]; then
+    (cd crates/corbelnib && rt lib) >&2
 fi
-
-# what it says of a processor that this machine is not is of no account
-if ! "$kit/$tools/bin/clang" --target="$machine-unknown-linux-gnu" --no-default-config -fintegrated-cc1 -Wno-override-module \
-    -O3 -fPIC -ffunction-sections -c -x ir "$host/module.bc" -o "$host/module.o" 2> "$host/said"; then
-    cat "$host/said" >&2
-    exit 1
+# with the kit's own toolchain, if the other is not to be had or is not taken (2: the toolchain failed)
+status=2
+if keeping; then
+    status=0
+    library "$room" || status=$?
 fi
-"$kit/$tools/bin/llvm-ar" rcs "$host/libcorbelnib.a" "$host/module.o"
-echo "$host"
+if [ "$status" -eq 2 ]; then
+    rm -f "$room/module.bc"
+    status=0
+    library "$kit/toolchain" || status=$?
+fi
+[ "$status" -eq 0 ] || exit "$status"
+if [ -s "$room/module.bc" ]; then
+    cp "$room/module.bc" "$made/module.bc" || rm -f "$made/module.bc"
+fi
+echo "tools/archive.sh: target/staticlib/libcorbelnib.a has the functions of crates/corbelnib_c" >&2
+echo "$made"

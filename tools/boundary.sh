@@ -1,22 +1,30 @@
 #!/bin/sh
-# Holds the functions that C can call against each other: the code (crates/corbelnib/src/lib.rt), the header's prototypes, and the
-# list of which demand 1 speaks (crates/demands/specs/Demand1.antt). Each contract is the promise of its own entry
-# (crates/corbelnib/specs/Calls.antt), of its own parameters in their order. No function may ask anything of its caller. And the numbers that the header names: each is that of the
-# answer or refusal of the same name in the code; and the version.
+# Holds the functions that C can call against each other: the exports (crates/corbelnib_c/src/lib.rt), the library's functions of the same names
+# (crates/corbelnib/src/lib.rt), the header's prototypes, and the list of which demand 1 speaks (crates/demands/specs/Demand1.antt). Each export
+# calls the library's function with its own parameters and has its contract, word for word. Each contract is the promise of its own entry
+# (crates/corbelnib/specs/Calls.antt), of its own parameters in their order. No function may ask anything of its caller. And the numbers that the
+# header names: each is that of the answer or refusal of the same name in the code; and the version.
 set -eu
 cd "$(dirname "$0")/.."
-code=crates/corbelnib/src/lib.rt
+code=crates/corbelnib_c/src/lib.rt
+library=crates/corbelnib/src/lib.rt
+
+# The heads of a file's functions, from `fn` to the result's type, one to a line.
+heads() { # FILE
+    awk '/^pub (extern "C" )?fn / { head = 1; text = ""; sub(/^pub (extern "C" )?fn /, "") }
+        head { text = text " " $0 }
+        head && /-> [a-z0-9]+/ { print text; head = 0 }' "$1" |
+        sed 's/^ //
+            s/( */(/
+            s/, *)/)/
+            s/  */ /g'
+}
 
 # Prototypes without the names of parameters, as C has them: from the code, where a slice is a pointer and a length ..
 in_code() {
-    awk '/^pub extern "C" fn / { head = 1; text = "" }
-        head { text = text " " $0 }
-        head && /-> [a-z0-9]+/ { print text; head = 0 }' "$code" |
-        sed 's/.* fn \([a-z_]*\)(\(.*\)) -> \([a-z0-9]*\).*/\3 \1(\2)/
+    heads "$code" |
+        sed 's/^\([a-z_]*\)(\(.*\)) -> \([a-z0-9]*\).*/\3 \1(\2)/
             s/[a-z_]*: //g
-            s/( */(/
-            s/, *)/)/
-            s/  */ /g
             s/&mut \[\([a-z0-9]*\)\]/\1 *, usize/g
             s/&\[\([a-z0-9]*\)\]/const \1 *, usize/g
             s/&mut \([a-z0-9]*\)/\1 */g
@@ -46,30 +54,47 @@ in_header() {
         }' include/corbelnib.h | sort
 }
 
+# The exports as they stand, in one line each, and as they have to be, made from the library's heads and contracts: the same head and the
+# same clauses, and a body that is one call.
+exports() {
+    awk '/^#\[unsafe\(no_mangle\)\]$/ { export = 1; text = "" }
+        export { text = text " " $0 }
+        export && /^}/ { print text; export = 0 }' "$code" |
+        sed 's/  */ /g; s/^ //; s/( /(/g; s/, *)/)/g'
+}
+thin() {
+    awk '/^pub fn / { head = 1; text = ""; sub(/^pub fn /, "") }
+        head && /^{/ { print text; head = 0 }
+        head { text = text " " $0 }' "$library" |
+        sed 's/  */ /g; s/^ //; s/( /(/g; s/, *)/)/g' |
+        awk '{
+            name = $0; sub(/\(.*/, "", name)
+            list = $0; sub(/^[^(]*\(/, "", list); sub(/\) -> .*/, "", list)
+            gsub(/: [^,]*/, "", list)
+            print "#[unsafe(no_mangle)] pub extern \"C\" fn " $0 " { corbelnib::" name "(" list ") }"
+        }'
+}
+
 # The contracts, word for word without brackets: what is lent as it is left, the promise of the entry, what goes in, what is lent as it lay ..
-contracts() {
-    awk '/^pub extern "C" fn corbelnib_/ { name = $5; sub(/\(.*/, "", name) }
-        /^    ensures / { print name, $0 }' "$code" |
-        sed 's/ *ensures { λ r\. ⌜ / /
-            s/ ⌝ }$//
+contracts() { # FILE
+    awk '/^pub (extern "C" )?fn corbelnib_/ { name = $0; sub(/.* fn /, "", name); sub(/^pub fn /, "", name); sub(/\(.*/, "", name) }
+        /^    ensures / { print name, $0 }' "$1" |
+        sed 's/ *ensures { / /
+            s/ }$//
             s/[(),]/ /g
-            s/ \(now\|lends\|lentOf\|asks\|runs\)\( \|$\)/ /g
-            s/ \(now\|lends\|lentOf\|asks\|runs\)\( \|$\)/ /g
+            s/ \(lends\|lent_of\|asks\|runs\)\( \|$\)/ /g
+            s/ \(lends\|lent_of\|asks\|runs\)\( \|$\)/ /g
             s/  */ /g
             s/ $//'
 }
 
 # .. and as they have to be, made from the parameters.
-promises() {
-    awk '/^pub extern "C" fn corbelnib_/ { head = 1; text = "" }
-        head { text = text " " $0 }
-        head && /-> [a-z0-9]+/ { print text; head = 0 }' "$code" |
+promises() { # FILE
+    heads "$1" |
         awk '{
             name = $0
-            sub(/.* fn /, "", name); sub(/\(.*/, "", name)
+            sub(/\(.*/, "", name)
             entry = substr(name, 11)
-            while (match(entry, /_[a-z]/))
-                entry = substr(entry, 1, RSTART - 1) toupper(substr(entry, RSTART + 1, 1)) substr(entry, RSTART + 2)
             list = $0
             sub(/^[^(]*\(/, "", list); sub(/\)[^)]*$/, "", list)
             count = split(list, one, ",")
@@ -78,13 +103,13 @@ promises() {
                 if (one[i] !~ /:/) continue
                 split(one[i], part, ":")
                 gsub(/ /, "", part[1])
-                if (part[2] ~ /&mut/) { lay = lay " " part[1] " .entry"; left = left " " part[1] " .exit" }
-                else if (part[2] ~ /&/) goes = goes " " part[1] " .entry"
+                if (part[2] ~ /&mut/) { lay = lay " " part[1] ".old"; left = left " " part[1] ".new" }
+                else if (part[2] ~ /&/) goes = goes " " part[1] ".now"
                 else goes = goes " " part[1]
             }
             if (goes == "") goes = " tt"
-            if (left == "") print name " r ≡ promise call." entry goes " tt .number"
-            else print name " left r" left " ≡ promise call." entry goes lay
+            if (left == "") print name " result ≡ promise call." entry goes " tt .number"
+            else print name " left result" left " ≡ promise call." entry goes lay
         }'
 }
 
@@ -99,7 +124,7 @@ numbers_in_header() {
 }
 
 names=$(sed -n 's/^pub extern "C" fn corbelnib_\([a-z_]*\)(.*/\1/p' "$code" | sort)
-demand=$(sed -n '/^boundary =/,/^$/p' crates/demands/specs/Demand1.antt | tail -n +2 | tr '∷' '\n' | sed 's/[A-Z]/_\L&/g; s/[^a-z_]//g' | grep -v '^$' | sort)
+demand=$(sed -n '/^boundary =/,/^$/p' crates/demands/specs/Demand1.antt | tail -n +2 | tr '∷' '\n' | sed 's/[^a-z_]//g' | grep -v '^$' | sort)
 status=0
 apart=$( (in_code; in_header) | sort | uniq -u)
 if [ -n "$apart" ]; then
@@ -107,20 +132,28 @@ if [ -n "$apart" ]; then
     echo "$apart" >&2
     status=1
 fi
-if [ "$names" != "$demand" ]; then
+if [ -z "$names" ] || [ "$names" != "$demand" ]; then
     echo "demand 1 (crates/demands/specs/Demand1.antt) does not speak of the functions of $code" >&2
     status=1
 fi
-astray=$( (contracts; promises) | sort | uniq -u)
-if [ -n "$astray" ]; then
-    echo "$code: these contracts are not the promise of their own entry, of their own parameters (as it stands, and as it should):" >&2
-    echo "$astray" >&2
+apart=$( (exports; thin) | sort | uniq -u)
+if [ -n "$apart" ]; then
+    echo "these functions of $code and $library differ, or are more than a call (as it stands, and as it should):" >&2
+    echo "$apart" >&2
     status=1
 fi
-if grep -q '^ *requires' "$code"; then
-    echo "$code: a function for C asks something of its caller" >&2
-    status=1
-fi
+for file in "$code" "$library"; do
+    astray=$( (contracts "$file"; promises "$file") | sort | uniq -u)
+    if [ -n "$astray" ]; then
+        echo "$file: these contracts are not the promise of their own entry, of their own parameters (as it stands, and as it should):" >&2
+        echo "$astray" >&2
+        status=1
+    fi
+    if grep -q '^ *requires' "$file"; then
+        echo "$file: a function for C asks something of its caller" >&2
+        status=1
+    fi
+done
 unknown=$( (numbers_in_code; numbers_in_code; numbers_in_header) | sort | uniq -u)
 if [ -n "$unknown" ]; then
     echo "include/corbelnib.h names numbers that the code does not give:" >&2
@@ -129,7 +162,7 @@ if [ -n "$unknown" ]; then
 fi
 version=$(sed -n 's/^#define CORBELNIB_VERSION "\([0-9]*\)\.\([0-9]*\)\.\([0-9]*\)"$/\1 \2 \3/p' include/corbelnib.h | awk '{ print $1 * 10000 + $2 * 100 + $3 }')
 told=$(sed -n 's/^#define CORBELNIB_VERSION_NUMBER \([0-9]*\)$/\1/p' include/corbelnib.h)
-defined=$(sed -n 's/^versionNumber = \([0-9]*\)$/\1/p' crates/corbelnib/specs/Calls.antt)
+defined=$(sed -n 's/^version_number = \([0-9]*\)$/\1/p' crates/corbelnib/specs/Calls.antt)
 if [ "$version" != "$told" ] || [ "$told" != "$defined" ]; then
     echo "the version is $version in the header's text, $told in its number, $defined in crates/corbelnib/specs/Calls.antt" >&2
     status=1

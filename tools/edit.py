@@ -1,8 +1,8 @@
 #!/usr/bin/env python3
 """Tries one wrong program: tools/edit.py CRATE LABEL
 
-Applies crates/CRATE/must-fail/LABEL.edit where it stands, checks the crate (`rt dev`), prints the first refusals, and puts everything back.
-(`rt must-fail CRATE` also tries the edits of every crate below.) A refusal should be about a fact, not about the code's shape.
+Applies crates/CRATE/must-fail/LABEL.edit where it stands, checks the crate (`rt check`), prints the first refusals, and puts everything back.
+(`rt must-fail CRATE` tries all edits of the crate, on copies.) A refusal should be about a fact, not about the code's shape.
 """
 import subprocess
 import sys
@@ -22,8 +22,8 @@ def main(crate, label):
                 if text.count(old) != 1:
                     sys.exit(f"{file} has this {text.count(old)} times: {old}")
                 open(file, "w").write(text.replace(old, line[5:]))
-        run = subprocess.run(["rt", "dev", crate], capture_output=True, text=True)
-        said = [x for x in (run.stdout + run.stderr).split("\n") if "error:" in x or "no proof" in x or x.startswith("logic=")]
+        run = subprocess.run(["rt", "check"], cwd=f"crates/{crate}", capture_output=True, text=True)
+        said = [x for x in (run.stdout + run.stderr).split("\n") if "error" in x or "no proof" in x or x.startswith("logic=")]
         print("\n".join(x[:400] for x in said[:4] + said[-1:]))
     finally:
         for file, text in saved.items():

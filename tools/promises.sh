@@ -1,9 +1,9 @@
 #!/bin/sh
 # Holds docs/PROMISES.md to the code: each public function of the library is named in one of its tables of functions, and no other
-# is. A function is CRATE::NAME, CRATE::MODULE::NAME or CRATE::TYPE::NAME, one for C its name alone; a name without a path that follows
-# another in its cell has that one's path. And holds its laws to the proofs: each name in the column 'one result by', in the first column of
-# the other tables (the second too for demands and requests), and each name with a hyphen anywhere is declared in some crate's proofs/ or specs/
-# (`old-..` stands for all that begin so); each file of proofs or definitions that it names by a path is there.
+# is. A function is CRATE::NAME, CRATE::MODULE::NAME or CRATE::TYPE::NAME, one for C its name alone, which is that of the library's function below it
+# too (tools/boundary.sh); a name without a path that follows another in its cell has that one's path. And holds its laws to the proofs: each name in the column 'one result by', in the first column of
+# the other tables (the second too for demands and requests) is declared in some crate's proofs/ or specs/ (`old_..` stands for all that begin so),
+# and so is each name of several words anywhere that is no name of the code; each file of proofs or definitions that it names by a path is there.
 # tools/promises.sh prints what differs and fails if anything does.
 set -eu
 cd "$(dirname "$0")/.."
@@ -18,9 +18,11 @@ functions() { # PATH FILE
 }
 
 in_code() {
-    for crate in $(sed -n '/^# Programs/q;s/^\([a-z_]*\):.*/\1/p' crates.txt) framed magnitude; do
+    for crate in $(sed -n '/^# Programs/q;s/^\([a-z_]*\)[a-z ]*:.*/\1/p' crates.txt) framed magnitude; do
         [ -f "crates/$crate/src/lib.rt" ] || continue
-        functions "$crate::" "crates/$crate/src/lib.rt"
+        path=$crate::
+        [ "$crate" != corbelnib ] || path=
+        functions "$path" "crates/$crate/src/lib.rt"
         for module in $(sed -n 's/^pub mod \([a-z_]*\);/\1/p' "crates/$crate/src/lib.rt"); do
             functions "$crate::$module::" "crates/$crate/src/$module.rt"
         done
@@ -48,7 +50,7 @@ laws() {
         function words(text, every,    count, list, i) {
             count = split(text, list, "`")
             for (i = 2; i <= count; i += 2)
-                if (list[i] ~ (every ? "^[A-Za-z0-9.-]+$" : "^[A-Za-z0-9]+-[A-Za-z0-9.-]+$")) print list[i]
+                if (list[i] ~ (every ? "^[A-Za-z0-9._-]+$" : "^[A-Za-z0-9]+[_-][A-Za-z0-9._-]+$")) print (every ? "law " : "name ") list[i]
         }
         { words($0, 0) }
         !/^\|/ { head = ""; next }
@@ -69,16 +71,26 @@ files() {
     tr -c 'A-Za-z0-9_/.' '\n' <docs/PROMISES.md | sed -n -E 's/^(crates\/)?([a-z_]+\/(proofs|specs)\/[A-Za-z0-9_\/]+\.antt)\.?$/crates\/\2/p' | sort -u
 }
 
+# The words of the code: functions, fields and parameters, and crates.
+coded() {
+    cat crates/*/src/*.rt crates.txt | tr -c 'A-Za-z0-9_' '\n' | LC_ALL=C sort -u
+}
+
 status=0
 all=$(declared)
-for name in $(laws); do
-    case $name in
-    *-..) echo "$all" | grep -q "^${name%..}" && continue ;;
-    *) echo "$all" | grep -qFx -e "$name" && continue ;;
-    esac
-    echo "docs/PROMISES.md names $name, which no proof or definition declares" >&2
-    status=1
-done
+code=$(coded)
+laws | (
+    while read -r kind name; do
+        case $name in
+        *_..) echo "$all" | grep -q "^${name%..}" && continue ;;
+        *) echo "$all" | grep -qFx -e "$name" && continue ;;
+        esac
+        if [ "$kind" = name ] && echo "$code" | grep -qFx -e "$name"; then continue; fi
+        echo "docs/PROMISES.md names $name, which no proof or definition declares" >&2
+        status=1
+    done
+    exit $status
+) || status=1
 for file in $(files); do
     [ -f "$file" ] && continue
     echo "docs/PROMISES.md names $file, which is no file" >&2

@@ -3,36 +3,36 @@
 # for each crate that had to be proved, with its seconds. What rt says goes to target/proving.log, and its end is shown if it fails.
 set -eu
 cd "$(dirname "$0")/.."
-crates=$(sh tools/reached.sh corbelnib | wc -l)
+crates=$(sh tools/reached.sh corbelnib_c | wc -l)
 total=$((crates + 1))
 mkdir -p target
 log=target/proving.log
 failed=target/proving.failed
 rm -f "$failed"
 : > "$log"
-echo "$total crates are proved before the library is built: ten to twenty minutes the first time, later only what has changed." >&2
+echo "$total crates are proved before the library is built: that takes long the first time, later only what has changed." >&2
 
-# A line for each crate, from what rt says.
+# A line for each crate, from what rt says: that it takes a crate up, and at its end the verdict.
 told() {
     began=$(date +%s)
-    number=0
+    number=0 crate='' since=$began
     while IFS= read -r line; do
         printf '%s\n' "$line" >> "$log"
-        rest=${line#rt: }
         case $line in
-        'rt: '*' proved (unchanged'*) number=$((number + 1)) ;;
-        'rt: '*' proved ('*)
+        'rt: chose --jobs '*' for '*) crate=${line##* } since=$(date +%s) ;;
+        'logic=proved '*)
+            [ -n "$crate" ] || continue
             number=$((number + 1))
-            seconds=${rest#*\(}
-            echo "crate $number of $total: ${rest%% *}, ${seconds%)}"
+            echo "$crate is proved, $(($(date +%s) - since)) s; it is number $number of at most $total"
+            crate=''
             ;;
-        'rt: target/staticlib/'*) echo "crate $total of $total: corbelnib; all proved, $(($(date +%s) - began)) s" ;;
-        'rt: '*'NOT PROVED'*) printf '%s\n' "$rest" ;;
+        'logic='*) echo "${crate:-corbelnib_c} NOT PROVED" ;;
+        'tools/archive.sh: target/staticlib/'*) echo "corbelnib_c is proved, and the library is built; all took $(($(date +%s) - began)) s" ;;
         esac
     done
 }
 
-{ { sh tools/archive.sh 2>&1 >&3 3>&- || echo "status $?" > "$failed"; } | told >&2; } 3>&1
+{ { PYTHONUNBUFFERED=1 sh tools/archive.sh 2>&1 >&3 3>&- || echo "status $?" > "$failed"; } | told >&2; } 3>&1
 if [ -e "$failed" ]; then
     tail -n 30 "$log" >&2
     echo "the library was not built ($log has all that rt said)" >&2

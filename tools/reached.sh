@@ -4,7 +4,7 @@ set -eu
 cd "$(dirname "$0")/.."
 awk -v crate="$1" '
     { sub(/#.*/, "") }
-    /:/ { name = $0; sub(/:.*/, "", name); below = $0; sub(/^[^:]*:/, "", below); uses[name] = below }
+    /:/ { name = $1; sub(/:.*/, "", name); below = $0; sub(/^[^:]*:/, "", below); uses[name] = below }
     END {
         todo[count = 1] = crate
         for (k = 1; k <= count; k++) {

@@ -5,10 +5,13 @@
 set -eu
 cd "$(dirname "$0")/.."
 
-# the modules of specs/ that a file names, as CRATE/MODULE (CRATE/declared.TYPE for a type of the code)
+# the modules of specs/ that a file names, as CRATE/MODULE (CRATE/declared.TYPE for a type of the code), but for those of the kit's libraries
 imports() { # FILE
-    sed -n 's/^\(ghost \)\{0,1\}use Rattle·\([a-z_]*\)\(·specs\)\{0,1\}\.specs\.\(declared\.[A-Za-z0-9]*\).*/\2\/\4/p
-        s/^\(ghost \)\{0,1\}use Rattle·\([a-z_]*\)\(·specs\)\{0,1\}\.specs\.\([A-Z][A-Za-z0-9]*\).*/\2\/\4/p' "$1"
+    sed -n 's/^\(ghost \)\{0,1\}use Rattle\.\([a-z_]*\)\.specs\.\(declared\.[A-Za-z0-9]*\).*/\2\/\3/p
+        s/^\(ghost \)\{0,1\}use Rattle\.\([a-z_]*\)\.specs\.\([A-Z][A-Za-z0-9]*\).*/\2\/\3/p' "$1" |
+        while IFS= read -r module; do
+            [ ! -d "crates/${module%%/*}" ] || echo "$module"
+        done
 }
 
 seen=" "
@@ -40,7 +43,7 @@ files() { # CRATE
     done
 }
 
-crates=$(sed -n 's/^\([a-z_]*\):.*/\1/p' crates.txt)
+crates=$(sed -n 's/^\([a-z_]*\)[a-z ]*:.*/\1/p' crates.txt)
 
 # first what says the demands and the requests, over calls through C; then the words that these are written in; then types of the code
 list() {

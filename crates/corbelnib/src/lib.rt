@@ -1,5 +1,5 @@
 // The judge for a controller program in C: numbers and lent memory alone. A board is 432 bytes (src/wire.rt); 0 is done, any
-// other number SCOPE.md's. A refusal changes nothing lent, but for a bad move in a replay.
+// other number SCOPE.md's. A refusal changes nothing lent, but for a bad move in a replay. C calls it by crates/corbelnib_c.
 ghost use Rattle.std.specs.Prelude.{◌≡◌};
 ghost use Rattle.crossing.specs.Crossing.{left};
 ghost use Rattle.season.specs.Season.{lent_of};
@@ -13,8 +13,7 @@ use score::FeaturesAnswer;
 use sense::LineAnswer;
 
 // 12 to 15, or 0 for a well-formed board.
-#[unsafe(no_mangle)]
-pub extern "C" fn corbelnib_examine(board: &[u8]) -> u8
+pub fn corbelnib_examine(board: &[u8]) -> u8
     ensures { result ≡ (promise call.examine board.now tt).number }
 {
     if board.len() != wire::BYTES {
@@ -24,8 +23,7 @@ pub extern "C" fn corbelnib_examine(board: &[u8]) -> u8
 }
 
 // A board from its image: 10 to 15, 21.
-#[unsafe(no_mangle)]
-pub extern "C" fn corbelnib_read(image: &[u8], board: &mut [u8]) -> u8
+pub fn corbelnib_read(image: &[u8], board: &mut [u8]) -> u8
     ensures { left result board.new ≡ promise call.read image.now board.old }
 {
     let read = intake::image::read(image);
@@ -35,8 +33,7 @@ pub extern "C" fn corbelnib_read(image: &[u8], board: &mut [u8]) -> u8
 }
 
 // A board from a deck: 16, 13, 14, 21.
-#[unsafe(no_mangle)]
-pub extern "C" fn corbelnib_deal(deck: &[u8], board: &mut [u8]) -> u8
+pub fn corbelnib_deal(deck: &[u8], board: &mut [u8]) -> u8
     ensures { left result board.new ≡ promise call.deal deck.now board.old }
 {
     let dealt = intake::deal::deal(deck);
@@ -46,8 +43,7 @@ pub extern "C" fn corbelnib_deal(deck: &[u8], board: &mut [u8]) -> u8
 }
 
 // The board of a hand's number: 41, 21.
-#[unsafe(no_mangle)]
-pub extern "C" fn corbelnib_number(number: usize, board: &mut [u8]) -> u8
+pub fn corbelnib_number(number: usize, board: &mut [u8]) -> u8
     ensures { left result board.new ≡ promise call.number number board.old }
 {
     let dealt = intake::number::hand(number);
@@ -57,8 +53,7 @@ pub extern "C" fn corbelnib_number(number: usize, board: &mut [u8]) -> u8
 }
 
 // The board after one move: 12 to 15, 30, 33 to 40, 21.
-#[unsafe(no_mangle)]
-pub extern "C" fn corbelnib_move(board: &[u8], bytes: &[u8], after: &mut [u8]) -> u8
+pub fn corbelnib_move(board: &[u8], bytes: &[u8], after: &mut [u8]) -> u8
     ensures { left result after.new ≡ promise call.move (board.now, bytes.now) after.old }
 {
     if board.len() != wire::BYTES {
@@ -76,13 +71,7 @@ pub extern "C" fn corbelnib_move(board: &[u8], bytes: &[u8], after: &mut [u8]) -
 
 // The board after a list of moves, and their number: 12 to 15, 31, 21; 30 and 33 to 40 tell the place of the bad move and hand
 // back the board before it.
-#[unsafe(no_mangle)]
-pub extern "C" fn corbelnib_replay(
-    board: &[u8],
-    list: &[u8],
-    after: &mut [u8],
-    played: &mut usize,
-) -> u8
+pub fn corbelnib_replay(board: &[u8], list: &[u8], after: &mut [u8], played: &mut usize) -> u8
     ensures { left result (after.new, played.new) ≡ promise call.replay (board.now, list.now) (after.old, played.old) }
 {
     if board.len() != wire::BYTES {
@@ -104,13 +93,7 @@ pub extern "C" fn corbelnib_replay(
 
 // The records of a line on paper, and their number: 12 to 15, 21, 31; 42 tells the place of the first wrong character, 30 and 33 to 40 that
 // of the move.
-#[unsafe(no_mangle)]
-pub extern "C" fn corbelnib_read_line(
-    board: &[u8],
-    text: &[u8],
-    list: &mut [u8],
-    count: &mut usize,
-) -> u8
+pub fn corbelnib_read_line(board: &[u8], text: &[u8], list: &mut [u8], count: &mut usize) -> u8
     ensures { left result (list.new, count.new) ≡ promise call.read_line (board.now, text.now) (list.old, count.old) }
 {
     if board.len() != wire::BYTES {
@@ -121,13 +104,7 @@ pub extern "C" fn corbelnib_read_line(
 }
 
 // The text of a list of moves, and the number of its bytes: 12 to 15, 31, 21; 30, 33 to 40 and 43 tell the place of the move.
-#[unsafe(no_mangle)]
-pub extern "C" fn corbelnib_write_line(
-    board: &[u8],
-    list: &[u8],
-    text: &mut [u8],
-    count: &mut usize,
-) -> u8
+pub fn corbelnib_write_line(board: &[u8], list: &[u8], text: &mut [u8], count: &mut usize) -> u8
     ensures { left result (text.new, count.new) ≡ promise call.write_line (board.now, list.now) (text.old, count.old) }
 {
     if board.len() != wire::BYTES {
@@ -138,8 +115,7 @@ pub extern "C" fn corbelnib_write_line(
 }
 
 // The board after the chain of safe moves, and their number: 12 to 15, 21.
-#[unsafe(no_mangle)]
-pub extern "C" fn corbelnib_chain(board: &[u8], after: &mut [u8], moves: &mut usize) -> u8
+pub fn corbelnib_chain(board: &[u8], after: &mut [u8], moves: &mut usize) -> u8
     ensures { left result (after.new, moves.new) ≡ promise call.chain board.now (after.old, moves.old) }
 {
     if board.len() != wire::BYTES {
@@ -156,13 +132,7 @@ pub extern "C" fn corbelnib_chain(board: &[u8], after: &mut [u8], moves: &mut us
 }
 
 // The records of the allowed moves of a kind, and their number: 12 to 15, 30, 21.
-#[unsafe(no_mangle)]
-pub extern "C" fn corbelnib_moves(
-    board: &[u8],
-    kind: u8,
-    records: &mut [u8],
-    count: &mut usize,
-) -> u8
+pub fn corbelnib_moves(board: &[u8], kind: u8, records: &mut [u8], count: &mut usize) -> u8
     ensures { left result (records.new, count.new) ≡ promise call.moves (board.now, kind) (records.old, count.old) }
 {
     if board.len() != wire::BYTES {
@@ -179,8 +149,7 @@ pub extern "C" fn corbelnib_moves(
 }
 
 // The records of the candidates in order, and their number: 12 to 15, 21.
-#[unsafe(no_mangle)]
-pub extern "C" fn corbelnib_candidates(board: &[u8], records: &mut [u8], count: &mut usize) -> u8
+pub fn corbelnib_candidates(board: &[u8], records: &mut [u8], count: &mut usize) -> u8
     ensures { left result (records.new, count.new) ≡ promise call.candidates board.now (records.old, count.old) }
 {
     if board.len() != wire::BYTES {
@@ -193,8 +162,7 @@ pub extern "C" fn corbelnib_candidates(board: &[u8], records: &mut [u8], count: 
 }
 
 // The token's text, and the number of its bytes: 12 to 15, 21.
-#[unsafe(no_mangle)]
-pub extern "C" fn corbelnib_token(board: &[u8], text: &mut [u8], count: &mut usize) -> u8
+pub fn corbelnib_token(board: &[u8], text: &mut [u8], count: &mut usize) -> u8
     ensures { left result (text.new, count.new) ≡ promise call.token board.now (text.old, count.old) }
 {
     if board.len() != wire::BYTES {
@@ -204,8 +172,7 @@ pub extern "C" fn corbelnib_token(board: &[u8], text: &mut [u8], count: &mut usi
 }
 
 // The priority of a move: 12 to 15, 30, 33 to 40.
-#[unsafe(no_mangle)]
-pub extern "C" fn corbelnib_priority(board: &[u8], bytes: &[u8], priority: &mut i64) -> u8
+pub fn corbelnib_priority(board: &[u8], bytes: &[u8], priority: &mut i64) -> u8
     ensures { left result priority.new ≡ promise call.priority (board.now, bytes.now) priority.old }
 {
     if board.len() != wire::BYTES {
@@ -218,8 +185,7 @@ pub extern "C" fn corbelnib_priority(board: &[u8], bytes: &[u8], priority: &mut 
 }
 
 // Heuristic and progress score: 12 to 15.
-#[unsafe(no_mangle)]
-pub extern "C" fn corbelnib_scores(board: &[u8], heuristic: &mut i64, progress: &mut i64) -> u8
+pub fn corbelnib_scores(board: &[u8], heuristic: &mut i64, progress: &mut i64) -> u8
     ensures { left result (heuristic.new, progress.new) ≡ promise call.scores board.now (heuristic.old, progress.old) }
 {
     if board.len() != wire::BYTES {
@@ -231,8 +197,7 @@ pub extern "C" fn corbelnib_scores(board: &[u8], heuristic: &mut i64, progress: 
 }
 
 // The signature: 12 to 15.
-#[unsafe(no_mangle)]
-pub extern "C" fn corbelnib_signature(board: &[u8], signature: &mut u64) -> u8
+pub fn corbelnib_signature(board: &[u8], signature: &mut u64) -> u8
     ensures { left result signature.new ≡ promise call.signature board.now signature.old }
 {
     if board.len() != wire::BYTES {
@@ -242,8 +207,7 @@ pub extern "C" fn corbelnib_signature(board: &[u8], signature: &mut u64) -> u8
 }
 
 // The code of the card on top of a column, 255 for none: 12 to 15, 30.
-#[unsafe(no_mangle)]
-pub extern "C" fn corbelnib_top(board: &[u8], column: usize, code: &mut u8) -> u8
+pub fn corbelnib_top(board: &[u8], column: usize, code: &mut u8) -> u8
     ensures { left result code.new ≡ promise call.top (board.now, column) code.old }
 {
     if board.len() != wire::BYTES {
@@ -255,8 +219,7 @@ pub extern "C" fn corbelnib_top(board: &[u8], column: usize, code: &mut u8) -> u
 }
 
 // The code of the card in a cell, 255 for none: 12 to 15, 30.
-#[unsafe(no_mangle)]
-pub extern "C" fn corbelnib_cell(board: &[u8], cell: usize, code: &mut u8) -> u8
+pub fn corbelnib_cell(board: &[u8], cell: usize, code: &mut u8) -> u8
     ensures { left result code.new ≡ promise call.cell (board.now, cell) code.old }
 {
     if board.len() != wire::BYTES {
@@ -268,8 +231,7 @@ pub extern "C" fn corbelnib_cell(board: &[u8], cell: usize, code: &mut u8) -> u8
 }
 
 // How many cards of a suit are home: 12 to 15, 30.
-#[unsafe(no_mangle)]
-pub extern "C" fn corbelnib_home(board: &[u8], suit: usize, count: &mut usize) -> u8
+pub fn corbelnib_home(board: &[u8], suit: usize, count: &mut usize) -> u8
     ensures { left result count.new ≡ promise call.home (board.now, suit) count.old }
 {
     if board.len() != wire::BYTES {
@@ -282,8 +244,7 @@ pub extern "C" fn corbelnib_home(board: &[u8], suit: usize, count: &mut usize) -
 }
 
 // The most cards that may go to a column at once: 12 to 15, 30.
-#[unsafe(no_mangle)]
-pub extern "C" fn corbelnib_most(board: &[u8], column: usize, count: &mut usize) -> u8
+pub fn corbelnib_most(board: &[u8], column: usize, count: &mut usize) -> u8
     ensures { left result count.new ≡ promise call.most (board.now, column) count.old }
 {
     if board.len() != wire::BYTES {
@@ -296,8 +257,7 @@ pub extern "C" fn corbelnib_most(board: &[u8], column: usize, count: &mut usize)
 }
 
 // Whether the board is won: 12 to 15.
-#[unsafe(no_mangle)]
-pub extern "C" fn corbelnib_won(board: &[u8], won: &mut u8) -> u8
+pub fn corbelnib_won(board: &[u8], won: &mut u8) -> u8
     ensures { left result won.new ≡ promise call.won board.now won.old }
 {
     if board.len() != wire::BYTES {
@@ -307,8 +267,7 @@ pub extern "C" fn corbelnib_won(board: &[u8], won: &mut u8) -> u8
 }
 
 // The record of the first safe move, and whether there is one: 12 to 15, 21.
-#[unsafe(no_mangle)]
-pub extern "C" fn corbelnib_safe(board: &[u8], bytes: &mut [u8], count: &mut usize) -> u8
+pub fn corbelnib_safe(board: &[u8], bytes: &mut [u8], count: &mut usize) -> u8
     ensures { left result (bytes.new, count.new) ≡ promise call.safe board.now (bytes.old, count.old) }
 {
     if board.len() != wire::BYTES {
@@ -328,8 +287,7 @@ pub extern "C" fn corbelnib_safe(board: &[u8], bytes: &mut [u8], count: &mut usi
 }
 
 // The seven features: 12 to 15, 21.
-#[unsafe(no_mangle)]
-pub extern "C" fn corbelnib_features(board: &[u8], features: &mut [u64]) -> u8
+pub fn corbelnib_features(board: &[u8], features: &mut [u64]) -> u8
     ensures { left result features.new ≡ promise call.features board.now features.old }
 {
     if board.len() != wire::BYTES {
@@ -348,16 +306,14 @@ pub extern "C" fn corbelnib_features(board: &[u8], features: &mut [u64]) -> u8
 }
 
 // How many nodes lent parts of these lengths hold.
-#[unsafe(no_mangle)]
-pub extern "C" fn corbelnib_capacity(nodes: usize, heap: usize, keys: usize, costs: usize) -> usize
+pub fn corbelnib_capacity(nodes: usize, heap: usize, keys: usize, costs: usize) -> usize
     ensures { result ≡ (promise call.capacity (nodes, (heap, (keys, costs))) tt).number }
 {
     solver::capacity_of(nodes, heap, keys, costs)
 }
 
 // The search: 12 to 15, 20, 21, 22, or the answer's number with its pops and the number of moves in the list.
-#[unsafe(no_mangle)]
-pub extern "C" fn corbelnib_judge(
+pub fn corbelnib_judge(
     board: &[u8],
     budget: usize,
     partial: u8,
@@ -390,8 +346,7 @@ pub extern "C" fn corbelnib_judge(
 }
 
 // The sheet over the hands of a run of numbers: 41, 20, 21, 22.
-#[unsafe(no_mangle)]
-pub extern "C" fn corbelnib_season(
+pub fn corbelnib_season(
     first: usize,
     last: usize,
     budget: usize,
@@ -412,16 +367,14 @@ pub extern "C" fn corbelnib_season(
 }
 
 // The version of the library: 601 is 0.6.1.
-#[unsafe(no_mangle)]
-pub extern "C" fn corbelnib_version() -> u32
+pub fn corbelnib_version() -> u32
     ensures { result ≡ (promise call.version tt tt).number }
 {
     601
 }
 
 // A sheet added to the first, where it stands: 47, 45, 44.
-#[unsafe(no_mangle)]
-pub extern "C" fn corbelnib_add(into: &mut [u64], other: &[u64]) -> u8
+pub fn corbelnib_add(into: &mut [u64], other: &[u64]) -> u8
     ensures { left result into.new ≡ promise call.add other.now into.old }
 {
     let said = totals::add(into, other);
