@@ -1,5 +1,6 @@
 // Whether a sheet is good (47), and which deals it covers.
 #![tactic(auto)]
+
 ghost use Rattle.std.specs.Prelude.{◌≡◌, ◌||◌, ◌+◌, ◌<◌, ◌≤◌, eqb, leb, length, get_or};
 ghost use Rattle.base.specs.Words.{every, sum};
 ghost use Rattle.sheets.specs.Figures.{told, lists};

@@ -1,5 +1,6 @@
 // The board record and what a card player sees on it (after freecell/board.rs, `FreeCellBoard`, changed: NOTICE).
 #![tactic(auto)]
+
 ghost use Rattle.std.specs.Prelude.{◌≡◌};
 ghost use Rattle.board.specs.Record.{examined};
 ghost use Rattle.board.specs.Refusal.{number_of, examined_told};

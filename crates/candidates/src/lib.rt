@@ -1,6 +1,7 @@
 // What the search tries on a board: specs/ says which moves, and in which order; `tried` lists them, `ordered` puts them in order. Here is
 // the child that one of them makes (after freecell/solver.rs, `expand_moves`, changed: NOTICE).
 #![tactic(auto)]
+
 ghost use Rattle.board.specs.Record.{laid};
 ghost use Rattle.board.specs.Inner.{Sound};
 ghost use Rattle.play.specs.Change.{Ready};

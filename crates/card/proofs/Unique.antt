@@ -1,5 +1,5 @@
 -- The answers of this crate allow one result only.
-use mathlib.Core.Path.{◌≡◌, refl, ◌∙◌}
+use mathlib.Core.Path.{◌≡◌, refl}
 use Prim.Native.Nat.{ℕ}
 use Rattle.base.specs.Answer.{Answer, given, refused}
 use Rattle.base.proofs.Unique.{told_once}

@@ -1,5 +1,6 @@
 // Cards: the four suits, their colours, and a card's code, value * 16 + suit (after common/card.rs, changed: NOTICE).
 #![tactic(auto)]
+
 ghost use Rattle.std.specs.Prelude.{◌≡◌, true};
 ghost use Rattle.card.specs.Suit.{suit_number, suit_at, color_of, suit_asked, suit_told};
 ghost use Rattle.card.specs.Card.{is_card, is_value, card_of, code_of, code_asked, code_told, card_asked, card_told};

@@ -1,5 +1,6 @@
 // The best cost known by key, in lent memory: entries found by probing from the key's home.
 #![tactic(auto)]
+
 ghost use Rattle.std.specs.Prelude.{◌≡◌, true, ◌<◌, ◌≤◌, length};
 ghost use Rattle.costs.specs.Entries.{is_used, cost_at, holds};
 ghost use Rattle.costs.specs.Table.{home, Table};

@@ -1,5 +1,6 @@
 // A sheet started, and deals entered into it one by one.
 #![tactic(auto)]
+
 ghost use Rattle.std.specs.Prelude.{◌≡◌, cond, ◌+◌, ◌^◌, ◌<◌, ◌≤◌, length, get_or};
 ghost use Rattle.base.specs.Words.{occurs};
 ghost use Rattle.sheets.specs.Figures.{answers_counted};

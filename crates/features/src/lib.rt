@@ -1,5 +1,6 @@
 // The features of a well formed board, from its arrays (after freecell/solver.rs, `compute_features`, changed: NOTICE).
 #![tactic(auto)]
+
 ghost use Rattle.std.specs.Prelude.{◌≡◌, cond, ◌∷◌, [], ◌/◌, ◌≤◌, ◌<◌, min, max, leb, length, get_or};
 ghost use Rattle.base.specs.Words.{sum, listed};
 ghost use Rattle.board.specs.Table.{held};

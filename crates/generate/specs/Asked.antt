@@ -1,5 +1,5 @@
 -- Moves listed: their records written into lent room, their number told; 12 to 15 if the board is not fine, then 21 for too little room.
-use Rattle.std.specs.Prelude.{◌≡◌, List, ◌∷◌, ◌++◌, ℕ, ◌+◌, ◌*◌, leb, length}
+use Rattle.std.specs.Prelude.{◌≡◌, List, ℕ, leb, length}
 use Rattle.base.specs.Answer.{Answer, given, refused, unless}
 use Rattle.board.specs.Verdict.{after}
 use Rattle.board.specs.Record.{examined}

@@ -2,6 +2,7 @@
 // that finds them is in `run_moves` and `generators`.
 // The most moves of a board, and the room for their records.
 #![tactic(auto)]
+
 pub const MOST_RECORDS: usize = 836;
 
 pub const RECORD_ROOM: usize = 5 * MOST_RECORDS;

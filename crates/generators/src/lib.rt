@@ -1,5 +1,6 @@
 // The six generators of moves, in one walk: by source, destination, length (after freecell/board.rs, `find_..`, changed: NOTICE).
 #![tactic(auto)]
+
 ghost use Rattle.std.specs.Prelude.{◌≡◌, true, ◌+◌, ◌*◌, ◌<◌, ◌≤◌, length};
 ghost use Rattle.card.specs.Card.{is_value, code_of};
 ghost use Rattle.board.specs.Record.{shown, laid};

@@ -1,5 +1,5 @@
 -- What reading and dealing hand over: the board, or a refusal by its number with the blank record beside it.
-use Rattle.std.specs.Prelude.{◌≡◌, ◌*◌, replicate}
+use Rattle.std.specs.Prelude.{◌≡◌, replicate}
 use Rattle.base.specs.Answer.{Answer, given, refused}
 use Rattle.board.specs.Record.{laid, tableau_room}
 use Rattle.board.specs.Refusal.{number_of}

@@ -1,5 +1,6 @@
 // Boards from outside: reading an image, dealing a deck, dealing the hand of a number.
 #![tactic(auto)]
+
 ghost use Rattle.std.specs.Prelude.{◌≡◌};
 ghost use Rattle.board.specs.declared.Examined.TheVariants.{Refused};
 ghost use Rattle.intake.specs.Handed.{blank};

@@ -1,6 +1,7 @@
 // Nodes in lent memory that point to their parents: each has a count of what points to it, and a node that nothing points to is
 // given back.
 #![tactic(auto)]
+
 ghost use Rattle.std.specs.Prelude.{◌≡◌, ◌+◌, ◌*◌, ◌-◌, ◌<◌, ◌≤◌, length};
 ghost use Rattle.kin.specs.Places.{parent_at, refs_at, counting, Pending, keeps, given_back, next_place};
 

@@ -1,5 +1,6 @@
 // A move and its five-byte record (after freecell/board.rs, `FreeCellMove`, changed: NOTICE).
 #![tactic(auto)]
+
 ghost use Rattle.std.specs.Prelude.{◌≡◌, true, ◌∷◌, [], ◌+◌, ◌*◌, ◌<◌, ◌≤◌, length};
 ghost use Rattle.card.specs.Card.{is_card};
 ghost use Rattle.card.specs.Suit.{suit_number};

@@ -1,5 +1,6 @@
 // A written move and its signs, and the form of a line. Knows no cards.
 #![tactic(auto)]
+
 pub mod form;
 pub mod put;
 

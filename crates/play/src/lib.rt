@@ -1,5 +1,6 @@
 // Playing a move on a board record (after freecell/board.rs, `FreeCellMove::apply`, changed: NOTICE).
 #![tactic(auto)]
+
 ghost use Rattle.std.specs.Prelude.{◌≡◌, true, ◌+◌, ◌-◌, ◌≤◌, ◌<◌, length, get_or, set};
 ghost use Rattle.card.specs.Card.{is_card};
 ghost use Rattle.card.specs.Suit.{suit_number};

@@ -2,6 +2,7 @@
 // point examines its record first; beside it stands the inner form for a record known to be well formed, which borrows the
 // arrays that it reads and copies nothing.
 #![tactic(auto)]
+
 ghost use Rattle.std.specs.Prelude.{◌≡◌, cond, ◌<◌, eqb, length, get_or};
 ghost use Rattle.base.specs.Words.{sum, listed};
 ghost use Rattle.board.specs.Record.{column_at};

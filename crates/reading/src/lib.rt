@@ -1,5 +1,6 @@
 // A line read: its moves one after the other, each played on the board that those before it leave.
 #![tactic(auto)]
+
 ghost use Rattle.std.specs.Prelude.{◌≡◌, true, ◌+◌, ◌*◌, ◌<◌, ◌≤◌, length};
 ghost use Rattle.base.specs.Answer.{given};
 ghost use Rattle.board.specs.Record.{shown, laid};

@@ -1,5 +1,6 @@
 // One move from its record, and a list of them (after freecell/board.rs, `FreeCellMove::apply`, changed: NOTICE).
 #![tactic(auto)]
+
 ghost use Rattle.std.specs.Prelude.{◌≡◌, true, ◌%◌, length};
 ghost use Rattle.board.specs.Record.{shown, laid};
 ghost use Rattle.board.specs.Inner.{Sound};

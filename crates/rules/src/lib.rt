@@ -1,5 +1,6 @@
 // The rules of laying cards: fit, run, the most cards moved at once (after freecell/board.rs, changed: NOTICE).
 #![tactic(auto)]
+
 ghost use Rattle.std.specs.Prelude.{◌≡◌, true, ◌<◌, get_or};
 ghost use Rattle.base.specs.Words.{listed};
 ghost use Rattle.card.specs.Card.{is_card};

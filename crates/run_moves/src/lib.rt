@@ -1,5 +1,6 @@
 // Runs from column to column, by destination and length (after freecell/board.rs, `find_tableau_to_tableau`, changed: NOTICE).
 #![tactic(auto)]
+
 ghost use Rattle.std.specs.Prelude.{◌≡◌, suc, min, ◌+◌, ◌*◌, ◌<◌, ◌≤◌, length, get_or};
 ghost use Rattle.board.specs.Record.{shown, column_at, laid};
 ghost use Rattle.board.specs.Inner.{Sound};

@@ -1,5 +1,6 @@
 // Which card may lie on which (after freecell/board.rs, `is_valid_tableau_run`, changed: NOTICE).
 #![tactic(auto)]
+
 ghost use Rattle.std.specs.Prelude.{◌≡◌, true};
 ghost use Rattle.card.specs.Card.{is_card};
 ghost use Rattle.runs.specs.Follows.{red, follows};

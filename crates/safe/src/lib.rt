@@ -1,6 +1,7 @@
 // Safe play: which card may go home without a second thought, the first such move, and the chain of them (after
 // freecell/solver.rs, `is_safe_foundation_move` to `auto_play_safe_chain`, changed: NOTICE).
 #![tactic(auto)]
+
 ghost use Rattle.std.specs.Prelude.{◌≡◌, true, ◌&&◌, ◌/◌, ◌<◌, ◌≤◌};
 ghost use Rattle.base.specs.Words.{listed};
 ghost use Rattle.card.specs.Suit.{color_of};

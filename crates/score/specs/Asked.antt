@@ -1,5 +1,5 @@
 -- Features, scores and token as they are asked for: 12 to 15 if the board is not fine; for the token then 21 for too little room.
-use Rattle.std.specs.Prelude.{◌≡◌, List, ◌++◌, ℕ, ◌+◌, leb, ℤ, length}
+use Rattle.std.specs.Prelude.{◌≡◌, List, ℕ, leb, ℤ, length}
 use Rattle.base.specs.Answer.{Answer, given, refused, unless}
 use Rattle.board.specs.Verdict.{after}
 use Rattle.board.specs.Record.{examined, shown}

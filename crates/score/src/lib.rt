@@ -1,5 +1,6 @@
 // Features of a board told, the two scores made of them, and the progress token (after freecell/solver.rs, changed: NOTICE).
 #![tactic(auto)]
+
 ghost use Rattle.std.specs.Prelude.{◌≡◌};
 ghost use Rattle.score.specs.Asked.{features_asked, features_told, heuristic_asked, progress_asked, score_told, Writes};
 

@@ -1,5 +1,5 @@
 -- What a written move means on a table, and how a move is written there.
-use Rattle.std.specs.Prelude.{Bool, true, false, cond, not, ◌&&◌, [], ℕ, zero, suc, min, eqb, leb, ltb, length, get_or}
+use Rattle.std.specs.Prelude.{Bool, true, false, cond, not, ◌&&◌, ℕ, zero, suc, min, eqb, leb, ltb, length, get_or}
 use Rattle.base.specs.Answer.{Answer, given, unless}
 use Rattle.board.specs.Table.{Table}
 use Rattle.runs.specs.Run.{run_length}

@@ -1,5 +1,6 @@
 // What a written move means on a board, and how a move is written there; what is answered of a line of them.
 #![tactic(auto)]
+
 use board::Refusal;
 use moves::Move;
 

@@ -8,7 +8,6 @@ use native.Mathlib.Omega.{arith}
 use native.Mathlib.Decide.{dec_lt}
 use borrow.Author.Tests.{lt-ltb, le-ltb}
 use lib.Dec.{eqb, ltb}
-use Rattle.base.specs.Words.{sum}
 use Rattle.base.specs.Answer.{given, unless}
 use Rattle.base.proofs.Answers.{given_by}
 use Rattle.base.proofs.Words.{first, second, same_test}

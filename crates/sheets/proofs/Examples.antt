@@ -2,20 +2,20 @@
 use mathlib.Core.Path.{◌≡◌, refl, sym, ap, ◌∙◌}
 use mathlib.Core.Bool.{Bool, true, false, cond, not, ◌&&◌}
 use mathlib.Core.List.{List, [], ◌∷◌, ◌++◌}
-use Prim.Native.Nat.{ℕ, zero, suc, ◌+◌, ◌-◌, ◌/◌, ◌%◌, ◌<◌, ◌≤◌}
+use Prim.Native.Nat.{ℕ, zero, suc, ◌+◌, ◌/◌, ◌%◌, ◌<◌, ◌≤◌}
 use native.Mathlib.Omega.{arith}
 use native.Mathlib.Decide.{dec_lt}
 use lib.Dec.{eqb}
 use lib.ListN.{length, get_or, replicate, get_or-replicate}
 use lib.Seq.{get_or-append-add}
 use Rattle.base.specs.Words.{every, sum}
-use Rattle.base.specs.Answer.{given, refused, unless}
+use Rattle.base.specs.Answer.{given, refused}
 use Rattle.base.proofs.Words.{not_so, true_or_not, every_at, every_by}
 use Rattle.board.specs.Inner.{bit_at}
 use Rattle.board.proofs.Bits.{bit_first, bit_next}
 use Rattle.sheets.specs.declared.Side.{Side}
 use Rattle.sheets.specs.declared.Side.TheVariants.{Shortest as shortest, Longest as longest}
-use Rattle.sheets.specs.Figures.{covers, told}
+use Rattle.sheets.specs.Figures.{told}
 use Rattle.sheets.specs.Over.{over}
 use Rattle.sheets.specs.Good.{covered, deals, is_absent, is_best, has_deal, good_mark, good_sheet}
 use Rattle.sheets.specs.Adding.{same_settings, apart, added, add_asked}

@@ -9,7 +9,6 @@ use borrow.Author.Tests.{lt-ltb, le-ltb}
 use lib.Dec.{eqb, ltb}
 use lib.ListN.{get_or}
 use Rattle.base.specs.Words.{sum}
-use Rattle.base.proofs.Words.{true_or_not}
 use Rattle.base.proofs.Sums.{sum_same, sum-add, sum-zero}
 use Rattle.sheets.specs.declared.Side.{Side}
 use Rattle.sheets.specs.Figures.{answers_counted, Figure, the_budget, the_capacity, the_flag, answers, all_pops, mark_list, mark_deal, lists, covers, told}

@@ -1,6 +1,7 @@
 // The season's figures: sheets of words over deal numbers, and their marks. Deals are entered by `entries`, sheets examined by `audit`
 // and added by `totals`. Knows no cards.
 #![tactic(auto)]
+
 pub mod mark;
 
 // The words of a sheet, and where its figures stand (specs/Figures.antt).

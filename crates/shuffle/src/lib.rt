@@ -1,5 +1,6 @@
 // The widely published shuffle: the deck of a hand's number.
 #![tactic(auto)]
+
 ghost use Rattle.std.specs.Prelude.{◌≡◌, ◌<◌, ◌^◌};
 ghost use Rattle.base.specs.Words.{listed};
 ghost use Rattle.card.specs.Pack.{card_at};

@@ -1,5 +1,5 @@
 -- The signature does not depend on which cell holds a card, nor on the order of the columns.
-use Rattle.std.proofs.Common.{◌≡◌, ℕ, ◌<◌, cond, eqb, List, [], length, get_or, sym, ap, ◌∙◌}
+use Rattle.std.proofs.Common.{◌≡◌, ℕ, cond, eqb, List, [], length, get_or, sym, ap, ◌∙◌}
 use Rattle.base.specs.Words.{listed}
 use Rattle.base.proofs.Words.{occurs-listed}
 use Rattle.board.specs.Table.{Table}

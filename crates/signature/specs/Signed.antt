@@ -1,5 +1,5 @@
 -- The signature of a board: a hash of all that lies on it, which cell and which column being left out of account.
-use Rattle.std.specs.Prelude.{◌≡◌, ℕ, ◌+◌, ◌<◌, List, [], ◌∷◌, ◌++◌, slice_index, slice_index_or}
+use Rattle.std.specs.Prelude.{ℕ, ◌+◌, List, [], ◌∷◌, ◌++◌, slice_index, slice_index_or}
 use Rattle.base.specs.Words.{listed, concat}
 use Rattle.base.specs.Answer.{Answer, given, refused}
 use Rattle.board.specs.Table.{Table, pile}

@@ -1,5 +1,6 @@
 // FNV-1a and the signature of a board (after freecell/board.rs, `compute_signature`, changed: NOTICE).
 #![tactic(auto)]
+
 ghost use Rattle.std.specs.Prelude.{◌≡◌, ◌*◌, ◌%◌, ◌^◌, ◌<◌, ◌≤◌, length};
 ghost use Rattle.base.specs.Words.{listed, concat};
 ghost use Rattle.board.specs.Record.{shown, column_at, laid};

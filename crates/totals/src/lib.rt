@@ -1,5 +1,6 @@
 // One sheet added to another, where it stands.
 #![tactic(auto)]
+
 ghost use Rattle.std.specs.Prelude.{◌≡◌, ◌&&◌, ◌<◌, ◌≤◌, length};
 ghost use Rattle.sheets.specs.Good.{covered};
 ghost use Rattle.sheets.specs.Adding.{flag_of, same_settings, apart, added};

@@ -1,5 +1,6 @@
 // A list of moves written as players write it: each on the board that those before it leave, one space between two.
 #![tactic(auto)]
+
 ghost use Rattle.std.specs.Prelude.{◌≡◌, true, ℕ, ◌+◌, ◌≤◌, ◌%◌, length};
 ghost use Rattle.base.specs.Put.{Puts};
 ghost use Rattle.board.specs.Record.{shown, laid};

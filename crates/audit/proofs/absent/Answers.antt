@@ -1,6 +1,5 @@
 -- What `absent` leaves to be shown: test by test.
 use Rattle.sheets.proofs.Deciding.{absent_not, absent_by}
-use borrow.Author.Rules.{rules}
 use Rattle.audit.proofs.absent.Goals as goal
 
 pub returns-then-list-ne0 : goal.returns-then-list-ne0

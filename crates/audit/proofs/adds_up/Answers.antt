@@ -1,8 +1,5 @@
 -- What `adds_up` leaves to be shown: what is left of the total after the first words.
-use Prim.Native.Nat.{◌+◌, ◌-◌}
-use lib.ListN.{get_or}
-use Rattle.sheets.proofs.Loops.{Taken, taken_none, taken_more, taken_over, taken_end}
-use borrow.Author.Rules.{rules}
+use Rattle.sheets.proofs.Loops.{taken_none, taken_more, taken_over, taken_end}
 use Rattle.audit.proofs.adds_up.Goals as goal
 
 pub loop-i-init : goal.loop-i-init

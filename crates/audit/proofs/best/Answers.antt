@@ -1,6 +1,5 @@
 -- What `best` leaves to be shown: test by test.
 use Rattle.sheets.proofs.Deciding.{best_long, best_none, best_some}
-use borrow.Author.Rules.{rules}
 use Rattle.audit.proofs.best.Goals as goal
 
 pub returns-then-list-gt-LONGEST_LIST : goal.returns-then-list-gt-LONGEST_LIST

@@ -1,8 +1,6 @@
 -- What `count_deals` leaves to be shown: the deals before i are counted.
 use mathlib.Core.Path.{sym, ◌∙◌}
-use Prim.Native.Nat.{◌-◌}
-use Rattle.sheets.proofs.Loops.{Counted, counted_none, counted_one, counted_not, counted_end}
-use borrow.Author.Rules.{rules}
+use Rattle.sheets.proofs.Loops.{counted_none, counted_one, counted_not, counted_end}
 use Rattle.audit.proofs.count_deals.Goals as goal
 
 pub loop-i-init : goal.loop-i-init

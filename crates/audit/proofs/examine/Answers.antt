@@ -2,9 +2,7 @@
 use Rattle.sheets.proofs.Deciding.{good_long, good_budget, good_answers, good_lists, good_shortest, good_longest, good_pops, pops_fit}
 use Prim.Native.Nat.{◌≤◌}
 use native.Mathlib.Omega.{arith}
-use borrow.Author.Tests.{not-true, not-false}
 use Rattle.sheets.proofs.Goodness.{deals_most}
-use borrow.Author.Rules.{rules}
 use Rattle.audit.proofs.examine.Goals as goal
 
 pub returns-then-sheet-ne-SHEET : goal.returns-then-sheet-ne-SHEET

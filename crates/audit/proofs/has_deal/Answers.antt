@@ -1,6 +1,5 @@
 -- What `has_deal` leaves to be shown: test by test.
 use Rattle.sheets.proofs.Deciding.{deal_low, deal_high, deal_has}
-use borrow.Author.Rules.{rules}
 use Rattle.audit.proofs.has_deal.Goals as goal
 
 pub returns-then-deal-lt1 : goal.returns-then-deal-lt1

@@ -1,6 +1,5 @@
 -- What `no_better` leaves to be shown: a length with no list, or by how far it is behind.
 use Rattle.sheets.proofs.Deciding.{better_none, better_some}
-use borrow.Author.Rules.{rules}
 use Rattle.audit.proofs.no_better.Goals as goal
 
 pub returns-then-sheet-at-eq0 : goal.returns-then-sheet-at-eq0

@@ -1,15 +1,12 @@
 -- What `none_better` leaves to be shown: none of the lengths before m is better.
-use mathlib.Core.Path.{sym, ◌∙◌}
 use mathlib.Core.Bool.{Bool, ◌||◌}
 use mathlib.Core.List.{List}
 use Prim.Native.Nat.{ℕ, ◌-◌}
 use lib.Dec.{eqb, leb}
-use borrow.Author.Tests.{not-true, not-false}
 use Rattle.sheets.specs.declared.Side.{Side}
 use Rattle.sheets.specs.Figures.{lists, told}
 use Rattle.sheets.specs.Over.{behind}
-use Rattle.sheets.proofs.Loops.{Held, held_none, held_more, held_fails, held_end}
-use borrow.Author.Rules.{rules}
+use Rattle.sheets.proofs.Loops.{Held}
 use Rattle.audit.proofs.none_better.Given as goal
 
 abbrev here : List ℕ → Side → ℕ → ℕ → Bool

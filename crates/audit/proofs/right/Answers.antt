@@ -1,7 +1,5 @@
 -- What `right` leaves to be shown: absent without a win, else test by test.
 use Rattle.sheets.proofs.Deciding.{right_none, right_not, right_by}
-use borrow.Author.Tests.{not-true, not-false}
-use borrow.Author.Rules.{rules}
 use Rattle.audit.proofs.right.Goals as goal
 
 pub returns-then-sheet-eq0 : goal.returns-then-sheet-eq0

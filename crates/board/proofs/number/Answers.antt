@@ -1,7 +1,6 @@
 -- What `number` leaves to be shown: case by case.
 use mathlib.Core.Path.{sym, ap}
 use Rattle.board.specs.Refusal.{number_of}
-use borrow.Author.Rules.{rules}
 use Rattle.board.proofs.number.Goals as goal
 
 pub returns-in-WrongLength : goal.returns-in-WrongLength

@@ -1,5 +1,4 @@
 -- What `card_of` leaves to be shown: the definition is the same record.
-use borrow.Author.Rules.{rules}
 use Rattle.card.specs.Card.{card_of}
 use Rattle.card.proofs.card_of.Goals as goal
 

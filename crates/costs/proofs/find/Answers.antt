@@ -1,6 +1,5 @@
 -- What `find` leaves to be shown: the key's place, or that there is none.
 use Rattle.costs.proofs.Finding.{part_upper, place_upper, place_lower, finds_place, finds_full}
-use borrow.Author.Rules.{rules}
 use Rattle.costs.proofs.find.Goals as goal
 
 pub scan-upper-requires : goal.scan-upper-requires

@@ -1,7 +1,6 @@
 -- What `is_for` leaves to be shown: what makes an entry a key's.
 use mathlib.Core.Path.{sym}
 use Rattle.costs.proofs.Entries.{used_not, used_yes, holds_free, holds-used}
-use borrow.Author.Rules.{rules}
 use Rattle.costs.proofs.is_for.Goals as goal
 
 pub returns-then-costs-i-eq0 : goal.returns-then-costs-i-eq0

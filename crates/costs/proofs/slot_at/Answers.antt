@@ -1,6 +1,5 @@
 -- What `slot_at` leaves to be shown: free, or the key's.
 use Rattle.costs.proofs.Scanning.{slot_free, slot_taken}
-use borrow.Author.Rules.{rules}
 use Rattle.costs.proofs.slot_at.Goals as goal
 
 pub returns-then-costs-i-eq0 : goal.returns-then-costs-i-eq0

@@ -1,7 +1,6 @@
 -- What `store` leaves to be shown: one word and one byte.
 use native.Mathlib.Omega.{arith}
 use Rattle.costs.proofs.Storing.{stored}
-use borrow.Author.Rules.{rules}
 use Rattle.costs.proofs.store.Goals as goal
 
 pub offset_bounds-keys-at : goal.offset_bounds-keys-at

@@ -1,6 +1,5 @@
 -- What `answer_at` leaves to be shown: the last, or the number itself.
 use Rattle.sheets.proofs.Entering.{answer_last, answer_low}
-use borrow.Author.Rules.{rules}
 use Rattle.entries.proofs.answer_at.Goals as goal
 
 pub returns-then-answer-eq23 : goal.returns-then-answer-eq23

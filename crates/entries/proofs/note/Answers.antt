@@ -2,7 +2,6 @@
 use mathlib.Core.Path.{◌∙◌}
 use native.Mathlib.Omega.{arith}
 use Rattle.sheets.proofs.Entering.{note_room_1, note_room_2, note_room_3, note_room_4, note_plain, note_won}
-use borrow.Author.Rules.{rules}
 use Rattle.entries.proofs.note.Goals as goal
 
 pub answer_at-which-requires : goal.answer_at-which-requires

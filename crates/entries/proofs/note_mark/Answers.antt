@@ -3,7 +3,6 @@ use mathlib.Core.Path.{refl}
 use native.Mathlib.Omega.{arith}
 use Rattle.sheets.proofs.Totals.{back_most}
 use Rattle.sheets.proofs.Entering.{mark_taken, mark_left}
-use borrow.Author.Rules.{rules}
 use Rattle.entries.proofs.note_mark.Goals as goal
 
 pub overflow_mul-high : goal.overflow_mul-high

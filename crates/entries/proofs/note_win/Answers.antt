@@ -6,7 +6,6 @@ use native.Mathlib.Omega.{arith}
 use Rattle.sheets.specs.declared.Side.TheVariants.{Longest as longest}
 use Rattle.sheets.specs.Promises.{Small, mark_entered, WinNoted}
 use Rattle.sheets.proofs.Entering.{win_small_1, win_small_2, win_noted}
-use borrow.Author.Rules.{rules}
 use Rattle.entries.proofs.note_win.Goals as goal
 
 pub raise-requires : goal.raise-requires

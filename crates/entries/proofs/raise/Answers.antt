@@ -1,6 +1,5 @@
 -- What `raise` leaves to be shown: one word alone.
 use Rattle.sheets.proofs.Entering.{raised}
-use borrow.Author.Rules.{rules}
 use Rattle.entries.proofs.raise.Goals as goal
 
 pub returns : goal.returns

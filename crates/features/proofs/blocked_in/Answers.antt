@@ -1,11 +1,8 @@
 -- What `blocked_in` leaves to be shown: what is counted, and what the cards ahead still add.
-use mathlib.Core.Path.{◌≡◌}
-use Prim.Native.Nat.{◌+◌, ◌-◌, ◌*◌, ◌/◌, ◌≤◌}
+use Prim.Native.Nat.{◌-◌, ◌/◌}
 use lib.Dec.{leb}
-use lib.ListN.{length, get_or, drop}
+use lib.ListN.{get_or}
 use native.Mathlib.Omega.{arith}
-use Rattle.board.specs.Record.{room}
-use Rattle.features.specs.Features.{blocked_in}
 use Rattle.features.proofs.Blocking.{by_most, blocked_step, blocked_end}
 use borrow.Author.Rules.{rules}
 use Rattle.features.proofs.blocked_in.Goals as goal

@@ -1,13 +1,9 @@
 -- What `blocked_in` leaves to be shown: what is counted, and what the cards ahead still add.
 use mathlib.Core.Path.{◌≡◌}
-use Prim.Native.Nat.{◌+◌, ◌-◌, ◌*◌, ◌/◌, ◌≤◌}
-use lib.Dec.{leb}
-use lib.ListN.{length, get_or, drop}
-use native.Mathlib.Omega.{arith}
+use Prim.Native.Nat.{◌+◌, ◌-◌, ◌*◌, ◌≤◌}
+use lib.ListN.{length, drop}
 use Rattle.board.specs.Record.{room}
 use Rattle.features.specs.Features.{blocked_in}
-use Rattle.features.proofs.Blocking.{by_most, blocked_step, blocked_end}
-use borrow.Author.Rules.{rules}
 use Rattle.features.proofs.blocked_in.Given as goal
 
 abbrev pub invariant-loop-k : goal.invariant-loop-k

@@ -1,16 +1,12 @@
 -- What `cells_home` leaves to be shown: a loop that adds the four cells up.
-use mathlib.Core.Path.{◌≡◌, sym, ap, ◌∙◌}
+use mathlib.Core.Path.{◌≡◌}
 use mathlib.Core.Bool.{cond}
 use mathlib.Core.List.{[], ◌∷◌}
-use Prim.Native.Nat.{ℕ, ◌-◌, ◌≤◌}
+use Prim.Native.Nat.{◌-◌, ◌≤◌}
 use lib.ListN.{get_or}
-use native.Mathlib.Omega.{arith}
 use Rattle.base.specs.Words.{sum}
-use Rattle.base.proofs.Sums.{sum_none, sum_next}
 use Rattle.board.specs.Table.{held}
 use Rattle.features.specs.Features.{last_goes_home}
-use Rattle.features.proofs.Blocking.{by_most}
-use borrow.Author.Rules.{rules}
 use Rattle.features.proofs.cells_home.Given as goal
 
 abbrev pub invariant-loop-i : goal.invariant-loop-i

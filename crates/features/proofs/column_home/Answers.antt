@@ -3,7 +3,6 @@ use mathlib.Core.Path.{◌∙◌}
 use Prim.Native.Nat.{◌-◌}
 use native.Mathlib.Omega.{arith}
 use Rattle.features.proofs.Homing.{column_none, column_last, one_home, no_home}
-use borrow.Author.Rules.{rules}
 use Rattle.features.proofs.column_home.Goals as goal
 
 pub bounds-counts-i : goal.bounds-counts-i

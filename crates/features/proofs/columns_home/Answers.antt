@@ -1,7 +1,7 @@
 -- What `columns_home` leaves to be shown: a loop that adds the eight columns up.
 use mathlib.Core.Path.{◌≡◌, sym, ap, ◌∙◌}
 use mathlib.Core.Bool.{cond}
-use Prim.Native.Nat.{ℕ, ◌-◌, ◌≤◌}
+use Prim.Native.Nat.{ℕ}
 use native.Mathlib.Omega.{arith}
 use Rattle.base.specs.Words.{sum}
 use Rattle.base.proofs.Sums.{sum_none, sum_next}

@@ -1,14 +1,10 @@
 -- What `columns_home` leaves to be shown: a loop that adds the eight columns up.
-use mathlib.Core.Path.{◌≡◌, sym, ap, ◌∙◌}
+use mathlib.Core.Path.{◌≡◌}
 use mathlib.Core.Bool.{cond}
-use Prim.Native.Nat.{ℕ, ◌-◌, ◌≤◌}
-use native.Mathlib.Omega.{arith}
+use Prim.Native.Nat.{◌-◌, ◌≤◌}
 use Rattle.base.specs.Words.{sum}
-use Rattle.base.proofs.Sums.{sum_none, sum_next}
 use Rattle.board.specs.Record.{column_at}
 use Rattle.features.specs.Features.{last_goes_home}
-use Rattle.features.proofs.Blocking.{by_most}
-use borrow.Author.Rules.{rules}
 use Rattle.features.proofs.columns_home.Given as goal
 
 abbrev pub invariant-loop-i : goal.invariant-loop-i

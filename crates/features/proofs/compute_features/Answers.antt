@@ -1,6 +1,5 @@
 -- What `compute_features` leaves to be shown: the seven features one by one.
 use Rattle.features.proofs.Measured.{features_are}
-use borrow.Author.Rules.{rules}
 use Rattle.board.specs.Record.{laid}
 use Rattle.features.proofs.compute_features.Goals as goal
 

@@ -3,7 +3,6 @@ use mathlib.Core.Path.{ap₂}
 use Prim.Native.Nat.{◌-◌}
 use Rattle.features.specs.Features.{imbalance_of}
 use Rattle.features.proofs.Extremes.{greatest_four, least_four}
-use borrow.Author.Rules.{rules}
 use Rattle.features.proofs.foundation_imbalance.Goals as goal
 
 pub returns : goal.returns

@@ -1,7 +1,6 @@
 -- What `free_cells_used` leaves to be shown: a cell is used or empty.
 use native.Mathlib.Omega.{arith}
 use Rattle.features.proofs.Bounds.{used_or_empty}
-use borrow.Author.Rules.{rules}
 use Rattle.features.proofs.free_cells_used.Goals as goal
 
 pub overflow_sub-result : goal.overflow_sub-result

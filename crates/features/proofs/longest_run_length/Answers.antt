@@ -1,7 +1,7 @@
 -- What `longest_run_length` leaves to be shown: a loop that keeps the longest.
 use mathlib.Core.Path.{◌≡◌, refl, sym, ap, ◌∙◌}
 use mathlib.Core.List.{[]}
-use Prim.Native.Nat.{ℕ, ◌-◌, ◌≤◌}
+use Prim.Native.Nat.{ℕ}
 use native.Mathlib.Omega.{arith}
 use Rattle.base.proofs.Words.{get_or-listed}
 use Rattle.board.specs.Record.{column_at}

@@ -1,14 +1,9 @@
 -- What `longest_run_length` leaves to be shown: a loop that keeps the longest.
-use mathlib.Core.Path.{◌≡◌, refl, sym, ap, ◌∙◌}
-use mathlib.Core.List.{[]}
-use Prim.Native.Nat.{ℕ, ◌-◌, ◌≤◌}
-use native.Mathlib.Omega.{arith}
-use Rattle.base.proofs.Words.{get_or-listed}
+use mathlib.Core.Path.{◌≡◌}
+use Prim.Native.Nat.{◌-◌, ◌≤◌}
 use Rattle.board.specs.Record.{column_at}
 use Rattle.runs.specs.Run.{run_length}
-use Rattle.features.specs.Features.{greatest, longest_run}
-use Rattle.features.proofs.Extremes.{greatest_next, greatest_same}
-use borrow.Author.Rules.{rules}
+use Rattle.features.specs.Features.{greatest}
 use Rattle.features.proofs.longest_run_length.Given as goal
 
 abbrev pub invariant-loop-i : goal.invariant-loop-i

@@ -4,7 +4,6 @@ use Rattle.generate.specs.Found.{source}
 use Rattle.generate.specs.declared.Way.{Way}
 use Rattle.play.proofs.Tops.{top_column, top_cell, top_home}
 use Rattle.generate.proofs.Places.{from_below}
-use borrow.Author.Rules.{rules}
 use Rattle.generators.proofs.card_at.Goals as goal
 
 pub top_at-requires : goal.top_at-requires

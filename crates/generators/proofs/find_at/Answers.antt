@@ -1,10 +1,7 @@
 -- What `find_at` leaves to be shown: place after place.
 use native.Mathlib.Omega.{arith}
-use Prim.Native.Nat.{◌-◌}
-use Rattle.board.specs.Record.{shown, laid}
-use Rattle.generate.specs.Found.{source_count, found_from, found}
-use Rattle.generate.proofs.Writing.{Walked, walk_start, walk_room, walk_on, walk_long, walk_end}
-use borrow.Author.Rules.{rules}
+use Rattle.generate.specs.Found.{found}
+use Rattle.generate.proofs.Writing.{walk_start, walk_room, walk_on, walk_long, walk_end}
 use Rattle.generators.proofs.find_at.Goals as goal
 
 pub loop-i-init : goal.loop-i-init

@@ -1,10 +1,8 @@
 -- What `find_at` leaves to be shown: place after place.
-use native.Mathlib.Omega.{arith}
 use Prim.Native.Nat.{◌-◌}
 use Rattle.board.specs.Record.{shown, laid}
-use Rattle.generate.specs.Found.{source_count, found_from, found}
-use Rattle.generate.proofs.Writing.{Walked, walk_start, walk_room, walk_on, walk_long, walk_end}
-use borrow.Author.Rules.{rules}
+use Rattle.generate.specs.Found.{source_count, found_from}
+use Rattle.generate.proofs.Writing.{Walked}
 use Rattle.generators.proofs.find_at.Given as goal
 
 abbrev pub invariant-loop-i : goal.invariant-loop-i

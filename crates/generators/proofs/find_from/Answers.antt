@@ -1,7 +1,6 @@
 -- What `find_from` leaves to be shown: runs, or moves of one card.
 use Rattle.generate.proofs.Places.{from_below}
 use Rattle.generate.proofs.Answering.{kind_room, kind_adds}
-use borrow.Author.Rules.{rules}
 use Rattle.generators.proofs.find_from.Goals as goal
 
 pub runs_from-requires : goal.runs_from-requires

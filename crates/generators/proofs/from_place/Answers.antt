@@ -1,13 +1,10 @@
 -- What `from_place` leaves to be shown: place after place, the moves of one card.
 use mathlib.Core.Path.{sym, ◌∙◌}
 use native.Mathlib.Omega.{arith}
-use Prim.Native.Nat.{◌-◌}
-use Rattle.board.specs.Record.{shown, laid}
-use Rattle.generate.specs.Found.{target_count, found_between, found_from}
+use Rattle.generate.specs.Found.{found_from}
 use Rattle.moves.proofs.Writing.{adds_none}
-use Rattle.generate.proofs.Writing.{Walked, walk_start, walk_room, walk_on, walk_long, walk_end}
+use Rattle.generate.proofs.Writing.{walk_start, walk_room, walk_on, walk_long, walk_end}
 use Rattle.generate.proofs.Offering.{none_from}
-use borrow.Author.Rules.{rules}
 use Rattle.generators.proofs.from_place.Goals as goal
 
 pub card_at-requires : goal.card_at-requires

@@ -6,7 +6,6 @@ use Rattle.moves.specs.declared.Move.TheVariants.{FoundationToTableau}
 use Rattle.generate.specs.Found.{move_from}
 use Rattle.generate.specs.declared.Way.{Way}
 use Rattle.generate.proofs.Places.{from_below}
-use borrow.Author.Rules.{rules}
 use Rattle.generators.proofs.move_from.Goals as goal
 
 pub overflow_cast-s : goal.overflow_cast-s

@@ -6,7 +6,6 @@ use lib.ListN.{length}
 use Rattle.moves.specs.declared.Move.{Move}
 use Rattle.moves.proofs.Writing.{adds_none, adds_same}
 use Rattle.generate.proofs.Offering.{offer_value, offer_said, offer_found}
-use borrow.Author.Rules.{rules}
 use Rattle.generators.proofs.offer.Goals as goal
 
 pub takes_at-requires : goal.takes_at-requires

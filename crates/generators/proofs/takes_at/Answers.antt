@@ -9,7 +9,6 @@ use Rattle.moves.specs.Move.{to}
 use Rattle.generate.specs.Found.{move_from}
 use Rattle.generate.specs.declared.Way.{Way}
 use Rattle.generate.proofs.Places.{to_below, takes_column, takes-home, takes_cell}
-use borrow.Author.Rules.{rules}
 use Rattle.generators.proofs.takes_at.Goals as goal
 
 pub code_of-code-requires : goal.code_of-code-requires

@@ -1,6 +1,5 @@
 -- What `hold` leaves to be shown.
 use Rattle.kin.proofs.Words.{held_by}
-use borrow.Author.Rules.{rules}
 use Rattle.kin.proofs.hold.Goals as goal
 
 pub returns : goal.returns

@@ -1,7 +1,7 @@
 -- What `let_go` leaves to be shown: each turn frees a place and goes on to its parent.
 use borrow.Author.Rules.{rules}
 use native.Mathlib.Omega.{arith}
-use Rattle.kin.proofs.Going.{Going, going_start, pending_in, pending_slot, going_turn, going_there, going_up, going_some, going_long, going_end}
+use Rattle.kin.proofs.Going.{going_start, pending_in, pending_slot, going_turn, going_there, going_up, going_some, going_long, going_end}
 use Rattle.kin.proofs.let_go.Goals as goal
 
 pub refs_of-refs-requires : goal.refs_of-refs-requires

@@ -1,5 +1,4 @@
 -- What `parent_of` leaves to be shown.
-use borrow.Author.Rules.{rules}
 use Rattle.kin.specs.Places.{parent_at}
 use Rattle.kin.proofs.parent_of.Goals as goal
 

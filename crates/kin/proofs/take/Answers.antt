@@ -1,6 +1,5 @@
 -- What `take` leaves to be shown.
 use Rattle.kin.proofs.Taking.{next_top, next_fresh}
-use borrow.Author.Rules.{rules}
 use Rattle.kin.proofs.take.Goals as goal
 
 pub returns-then-living-fresh : goal.returns-then-living-fresh

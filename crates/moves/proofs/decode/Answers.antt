@@ -3,11 +3,9 @@ use mathlib.Core.Path.{refl, sym, ◌∙◌, subst}
 use native.Mathlib.Omega.{arith}
 use Prim.Native.Nat.{ℕ, ◌<◌, ◌≤◌}
 use lib.ListN.{get_or}
-use borrow.Author.Tests.{lt-ltb, not-true, not-false}
-use Rattle.card.proofs.Codes.{is_card_lem}
+use borrow.Author.Tests.{lt-ltb}
 use Rattle.moves.proofs.Records.{not_five, no_card_lem, no_source, no_target, no_count, said}
 use Rattle.moves.proofs.Saying.{said_asked}
-use borrow.Author.Rules.{rules}
 use Rattle.moves.proofs.decode.Goals as goal
 
 pub returns-then-bytes-ne5 : goal.returns-then-bytes-ne5

@@ -1,7 +1,6 @@
 -- What `deepest_of` leaves to be shown: kind by kind, the named card.
 use mathlib.Core.Path.{sym, ap}
 use Rattle.moves.specs.Move.{card}
-use borrow.Author.Rules.{rules}
 use Rattle.moves.proofs.deepest_of.Goals as goal
 
 pub returns-in-TableauToTableau : goal.returns-in-TableauToTableau

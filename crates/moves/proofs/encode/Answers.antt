@@ -1,10 +1,8 @@
 -- What `encode` leaves to be shown, kind by kind: places and counts fit bytes.
 use mathlib.Core.Path.{sym, ◌∙◌, subst}
 use Prim.Native.Nat.{ℕ, ◌<◌}
-use Rattle.base.specs.Answer.{given}
 use Rattle.moves.specs.Record.{record_of}
 use Rattle.moves.proofs.Records.{Said, said_parts}
-use borrow.Author.Rules.{rules}
 use Rattle.moves.proofs.encode.Goals as goal
 
 pub code_of-requires : goal.code_of-requires

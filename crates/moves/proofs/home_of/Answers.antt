@@ -5,7 +5,6 @@ use Rattle.moves.specs.declared.Place.TheVariants.{Home as home}
 use mathlib.Core.Path.{ap, ◌∙◌}
 use Prim.Native.Nat.{ℕ}
 use Rattle.moves.specs.declared.Place.TheVariants.{Home as home}
-use borrow.Author.Rules.{rules}
 use Rattle.moves.proofs.home_of.Goals as goal
 
 pub returns : goal.returns

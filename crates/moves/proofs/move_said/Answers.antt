@@ -1,7 +1,6 @@
 -- What `move_said` leaves to be shown, kind by kind.
 use borrow.Author.Tests.{eq-eqb, ne_eqb}
 use Rattle.moves.specs.Record.{move_said}
-use borrow.Author.Rules.{rules}
 use Rattle.moves.proofs.move_said.Goals as goal
 
 pub returns-then-kind-eq1 : goal.returns-then-kind-eq1

@@ -1,7 +1,6 @@
 -- What `source_of` leaves to be shown: kind by kind, the place.
 use mathlib.Core.Path.{sym, ap, ◌∙◌}
 use Rattle.moves.specs.Move.{from}
-use borrow.Author.Rules.{rules}
 use Rattle.moves.proofs.source_of.Goals as goal
 
 pub returns-in-TableauToTableau : goal.returns-in-TableauToTableau

@@ -1,7 +1,6 @@
 -- What `target_of` leaves to be shown: kind by kind, the place.
 use mathlib.Core.Path.{sym, ap, ◌∙◌}
 use Rattle.moves.specs.Move.{to}
-use borrow.Author.Rules.{rules}
 use Rattle.moves.proofs.target_of.Goals as goal
 
 pub returns-in-TableauToTableau : goal.returns-in-TableauToTableau

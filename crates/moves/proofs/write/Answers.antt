@@ -21,10 +21,6 @@
 use native.Mathlib.Omega.{arith}
 use lib.ListN.{length-set}
 use Rattle.moves.proofs.Writing.{adds_one}
-use borrow.Author.Rules.{rules}
-use Rattle.moves.proofs.write.Reads as reads
-use Rattle.moves.proofs.write.Lts as lts
-use Rattle.moves.proofs.encode.Reads as encode-reads
 use Rattle.moves.proofs.write.Goals as goal
 
 pub bounds-out-at-2 : goal.bounds-out-at-2

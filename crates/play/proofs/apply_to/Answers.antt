@@ -6,7 +6,6 @@ use lib.ListN.{set}
 use Rattle.card.specs.Card.{is_card}
 use Rattle.play.proofs.Changing.{becomes_cell, becomes_home}
 use Rattle.play.proofs.Playing.{ready_for, played_as, run_source, run_target, run_other, run_enough, run_fits, run_again, run_played, value_of, is_card_of, column_from, cell_from, column_to, cell_to, one_there, home-there, played_2, played_3, room_4, played_4, played_5, room_6, played_6}
-use borrow.Author.Rules.{rules}
 use Rattle.board.specs.Record.{laid}
 use Rattle.play.proofs.apply_to.Goals as goal
 

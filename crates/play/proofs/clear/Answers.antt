@@ -1,12 +1,10 @@
 -- What `clear` leaves to be shown: place by place.
 use mathlib.Core.Path.{◌≡◌, subst}
-use Prim.Native.Nat.{ℕ, ◌-◌, ◌≤◌}
+use Prim.Native.Nat.{ℕ}
 use native.Mathlib.Omega.{arith}
-use lib.ListN.{length}
 use Rattle.play.specs.Change.{Cleared}
 use Rattle.play.proofs.Changing.{cleared_none, cleared_more}
 use borrow.Author.Rules.{rules}
-use Rattle.board.specs.Record.{tableau_room}
 use Rattle.play.proofs.clear.Goals as goal
 
 pub loop-k-init : goal.loop-k-init

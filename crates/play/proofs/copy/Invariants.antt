@@ -1,11 +1,8 @@
 -- What `copy` leaves to be shown: place by place.
-use mathlib.Core.Path.{◌≡◌, subst}
-use Prim.Native.Nat.{ℕ, ◌-◌, ◌≤◌}
-use native.Mathlib.Omega.{arith}
+use mathlib.Core.Path.{◌≡◌}
+use Prim.Native.Nat.{◌-◌, ◌≤◌}
 use lib.ListN.{length}
 use Rattle.play.specs.Change.{Copied}
-use Rattle.play.proofs.Changing.{copied_none, copied_more}
-use borrow.Author.Rules.{rules}
 use Rattle.board.specs.Record.{tableau_room}
 use Rattle.play.proofs.copy.Given as goal
 

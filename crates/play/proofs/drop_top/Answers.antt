@@ -1,7 +1,6 @@
 -- What `drop_top` leaves to be shown: one column is changed.
 use native.Mathlib.Omega.{arith}
 use Rattle.play.proofs.Changing.{becomes_dropped}
-use borrow.Author.Rules.{rules}
 use Rattle.board.specs.Record.{laid}
 use Rattle.play.proofs.drop_top.Goals as goal
 

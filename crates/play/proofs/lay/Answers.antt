@@ -1,6 +1,5 @@
 -- What `lay` leaves to be shown: one column is changed by one card.
 use Rattle.play.proofs.Changing.{becomes_laid}
-use borrow.Author.Rules.{rules}
 use Rattle.board.specs.Record.{laid}
 use Rattle.play.proofs.lay.Goals as goal
 

@@ -4,7 +4,6 @@ use Prim.Native.Nat.{ℕ, ◌-◌}
 use native.Mathlib.Omega.{arith}
 use lib.ListN.{get_or, set}
 use Rattle.card.proofs.Codes.{suit_below}
-use borrow.Author.Rules.{rules}
 use Rattle.play.proofs.leave_home.Goals as goal
 
 pub bounds-foundation-s : goal.bounds-foundation-s

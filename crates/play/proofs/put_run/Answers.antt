@@ -1,7 +1,6 @@
 -- What `put_run` leaves to be shown: one column is changed.
 use native.Mathlib.Omega.{arith}
 use Rattle.play.proofs.Changing.{becomes_run}
-use borrow.Author.Rules.{rules}
 use Rattle.board.specs.Record.{laid}
 use Rattle.play.proofs.put_run.Goals as goal
 

@@ -1,6 +1,5 @@
 -- What `features_after` leaves to be shown: the board after the move is sound.
 use Rattle.priority.proofs.After.{sound_then, features_then, bounded_then}
-use borrow.Author.Rules.{rules}
 use Rattle.priority.proofs.features_after.Goals as goal
 
 pub apply_to-requires : goal.apply_to-requires

@@ -4,7 +4,6 @@ use Rattle.board.specs.Record.{shown, laid}
 use Rattle.features.specs.Features.{Bounded}
 use Rattle.features.proofs.Bounds.{bounded}
 use Rattle.priority.proofs.After.{key_is}
-use borrow.Author.Rules.{rules}
 use Rattle.priority.proofs.key_at.Goals as goal
 
 pub priority_key-requires : goal.priority_key-requires

@@ -7,7 +7,6 @@ use Rattle.features.proofs.Bounds.{bounded}
 use Rattle.score.proofs.Signs.{passed_on}
 use Rattle.priority.proofs.Sizes.{priority_adds_most, priority-takes_most}
 use Rattle.priority.proofs.After.{priority_is, priority_fits}
-use borrow.Author.Rules.{rules}
 use Rattle.priority.proofs.local_priority.Goals as goal
 
 pub compute_features-before-requires : goal.compute_features-before-requires

@@ -2,7 +2,6 @@
 use native.Mathlib.Omega.{arith}
 use Rattle.priority.specs.Priority.{priority_adds}
 use Rattle.priority.proofs.Sizes.{base_adds_most}
-use borrow.Author.Rules.{rules}
 use Rattle.priority.proofs.priority_adds.Goals as goal
 
 pub overflow_add-result : goal.overflow_add-result

@@ -10,7 +10,6 @@ use Rattle.play.specs.Change.{Ready}
 use Rattle.score.proofs.Signs.{passed_on}
 use Rattle.priority.proofs.Asking.{asked_none, asked_move}
 use Rattle.priority.proofs.After.{priority_fits}
-use borrow.Author.Rules.{rules}
 use Rattle.priority.proofs.priority_at.Goals as goal
 
 pub returns-in_default : goal.returns-in_default

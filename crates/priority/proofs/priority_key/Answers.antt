@@ -4,7 +4,6 @@ use Prim.Native.Nat.{ℕ, ◌+◌, ◌-◌}
 use native.Mathlib.Omega.{arith}
 use Rattle.priority.specs.Priority.{priority_key, priority_bias}
 use Rattle.priority.proofs.Sizes.{priority_adds_most, priority-takes_most}
-use borrow.Author.Rules.{rules}
 use Rattle.priority.proofs.priority_key.Goals as goal
 
 pub overflow_add-raised : goal.overflow_add-raised

@@ -2,7 +2,6 @@
 use native.Mathlib.Omega.{arith}
 use Rattle.priority.specs.Priority.{priority_takes}
 use Rattle.priority.proofs.Sizes.{base_takes_most}
-use borrow.Author.Rules.{rules}
 use Rattle.priority.proofs.priority_takes.Goals as goal
 
 pub overflow_add-result : goal.overflow_add-result

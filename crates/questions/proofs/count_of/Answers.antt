@@ -2,7 +2,7 @@
 use mathlib.Core.Path.{◌≡◌, refl, ap, ◌∙◌}
 use mathlib.Core.Bool.{cond}
 use mathlib.Core.List.{List}
-use Prim.Native.Nat.{ℕ, ◌+◌, ◌-◌, ◌≤◌}
+use Prim.Native.Nat.{ℕ, ◌+◌}
 use native.Mathlib.Omega.{arith}
 use lib.Dec.{eqb}
 use lib.ListN.{length, get_or}
@@ -29,8 +29,8 @@ loop-i-init c = (search rules, search rules, refl)
 pub loop-i-preserved : goal.loop-i-preserved
 loop-i-preserved c =
     elim c.if-s-i.branch [
-      then-s-i w ↦ (search rules, omega arith, omega (arith, hits c.args.s.now c.args.x c.loop-i.i w.if-s-i.true, w.n-is))
-    | else-s-i w ↦ (search rules, omega arith, omega (arith, misses c.args.s.now c.args.x c.loop-i.i w.if-s-i.false, w.n-is))
+      | then-s-i w ↦ (search rules, omega arith, omega (arith, hits c.args.s.now c.args.x c.loop-i.i w.if-s-i.true, w.n-is))
+      | else-s-i w ↦ (search rules, omega arith, omega (arith, misses c.args.s.now c.args.x c.loop-i.i w.if-s-i.false, w.n-is))
     ]
 
 pub returns : goal.returns

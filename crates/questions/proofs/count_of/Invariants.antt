@@ -1,8 +1,7 @@
 -- What `count_of` leaves to be shown: a loop that adds up hits.
-use mathlib.Core.Path.{◌≡◌, refl, ap, ◌∙◌}
+use mathlib.Core.Path.{◌≡◌, ap, ◌∙◌}
 use mathlib.Core.Bool.{cond}
 use mathlib.Core.List.{List}
-use mathlib.Core.Logic.{⊎_elim}
 use Prim.Native.Nat.{ℕ, ◌+◌, ◌-◌, ◌≤◌}
 use native.Mathlib.Omega.{arith}
 use lib.Dec.{eqb}
@@ -10,7 +9,6 @@ use lib.ListN.{length, get_or}
 use borrow.Author.Tests.{eq-eqb, ne_eqb}
 use Rattle.base.specs.Words.{sum}
 use Rattle.base.proofs.Sums.{sum_next}
-use borrow.Author.Rules.{rules}
 use Rattle.questions.proofs.count_of.Given as goal
 
 abbrev hit : List ℕ → ℕ → ℕ → ℕ

@@ -3,7 +3,6 @@ use mathlib.Core.Path.{sym, ap, ◌∙◌}
 use mathlib.Core.List.{List}
 use Prim.Native.Nat.{ℕ}
 use Rattle.base.specs.Answer.{given}
-use Rattle.board.specs.Table.{piles}
 use Rattle.questions.specs.Questions.{empty_columns, empty_columns_asked}
 use Rattle.board.proofs.Soundness.{sound}
 use Rattle.questions.proofs.Asking.{after_no, after_yes, verdict_fine, shown_columns}

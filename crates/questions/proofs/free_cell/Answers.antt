@@ -5,7 +5,6 @@ use Prim.Native.Nat.{ℕ}
 use native.Mathlib.Omega.{arith}
 use lib.ListN.{get_or}
 use Rattle.base.specs.Answer.{given}
-use Rattle.board.specs.Table.{piles}
 use Rattle.questions.specs.Questions.{cell_of, cell_asked}
 use Rattle.board.proofs.Soundness.{sound}
 use Rattle.questions.proofs.Asking.{after_no, after_yes, verdict_fine, place_no, place_yes, shown_cells}

@@ -4,7 +4,6 @@ use mathlib.Core.Bool.{Bool}
 use mathlib.Core.List.{List}
 use Prim.Native.Nat.{ℕ}
 use Rattle.base.specs.Answer.{given}
-use Rattle.board.specs.Table.{piles}
 use Rattle.questions.specs.Questions.{won_on, won_asked}
 use Rattle.board.proofs.Soundness.{sound}
 use Rattle.questions.proofs.Asking.{after_no, after_yes, verdict_fine, shown_foundation}

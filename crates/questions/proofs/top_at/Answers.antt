@@ -3,7 +3,6 @@ use mathlib.Core.Path.{ap, ◌∙◌}
 use native.Mathlib.Omega.{arith}
 use Rattle.questions.specs.declared.Top.TheVariants.{Is}
 use Rattle.questions.proofs.Asking.{no_top, a_top}
-use borrow.Author.Rules.{rules}
 use Rattle.questions.proofs.top_at.Goals as goal
 
 pub bounds-counts-i : goal.bounds-counts-i

@@ -1,12 +1,8 @@
 -- What `total_at` leaves to be shown: a loop that adds the four counts up.
-use mathlib.Core.Path.{◌≡◌, refl, ap, ◌∙◌}
-use Prim.Native.Nat.{ℕ, ◌-◌, ◌*◌, ◌≤◌}
-use native.Mathlib.Omega.{arith}
+use mathlib.Core.Path.{◌≡◌}
+use Prim.Native.Nat.{◌-◌, ◌*◌, ◌≤◌}
 use lib.ListN.{get_or}
 use Rattle.base.specs.Words.{sum}
-use Rattle.questions.specs.Questions.{home_count}
-use Rattle.base.proofs.Sums.{sum_next}
-use borrow.Author.Rules.{rules}
 use Rattle.questions.proofs.total_at.Given as goal
 
 abbrev pub invariant-loop-s : goal.invariant-loop-s

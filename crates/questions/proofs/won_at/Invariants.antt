@@ -1,16 +1,11 @@
 -- What `won_at` leaves to be shown: a checking loop over the four counts.
-use mathlib.Core.Path.{◌≡◌, sym}
+use mathlib.Core.Path.{◌≡◌}
 use mathlib.Core.Bool.{Bool, true}
 use mathlib.Core.List.{List}
 use Prim.Native.Nat.{ℕ, ◌-◌, ◌≤◌}
-use native.Mathlib.Omega.{arith}
 use lib.Dec.{eqb}
 use lib.ListN.{get_or}
-use borrow.Author.Tests.{eq-eqb, ne_eqb}
 use Rattle.base.specs.Words.{every}
-use Rattle.base.proofs.Words.{every_none, every_more, every_end, every_fails}
-use Rattle.questions.specs.Questions.{won_on}
-use borrow.Author.Rules.{rules}
 use Rattle.questions.proofs.won_at.Given as goal
 
 abbrev king : List ℕ → ℕ → Bool

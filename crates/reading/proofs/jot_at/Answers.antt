@@ -1,10 +1,7 @@
 -- What `jot_at` leaves to be shown: each sign leads on, ends the move, or is wrong.
 use mathlib.Core.Path.{sym, ◌∙◌}
-use Prim.Native.Nat.{◌-◌}
 use native.Mathlib.Omega.{arith}
-use lib.ListN.{length}
-use Rattle.reading.proofs.Cutting.{Cutting, cutting_start, cutting_on, cutting_ends, cutting_stop, cutting_end}
-use borrow.Author.Rules.{rules}
+use Rattle.reading.proofs.Cutting.{cutting_start, cutting_on, cutting_ends, cutting_stop, cutting_end}
 use Rattle.reading.proofs.jot_at.Goals as goal
 
 pub loop-i-init : goal.loop-i-init

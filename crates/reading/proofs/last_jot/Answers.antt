@@ -1,9 +1,7 @@
 -- What `last_jot` leaves to be shown: by what is due.
-use mathlib.Core.Path.{◌≡◌, refl, ap}
-use Prim.Native.Nat.{ℕ}
+use mathlib.Core.Path.{refl, ap}
 use Rattle.notation.specs.Form.{ending}
 use Rattle.notation.specs.declared.Due.{Due}
-use borrow.Author.Rules.{rules}
 use Rattle.reading.proofs.last_jot.Goals as goal
 
 pub returns-in-Pair : goal.returns-in-Pair

@@ -4,7 +4,6 @@ use Rattle.board.specs.Record.{shown, laid}
 use Rattle.board.specs.Refusal.{examined_told}
 use Rattle.moves.proofs.Ruling.{fine-allowed}
 use Rattle.reading.proofs.Taking.{make_no, make_yes}
-use borrow.Author.Rules.{rules}
 use Rattle.reading.proofs.make.Goals as goal
 
 pub returns-in-Refused : goal.returns-in-Refused

@@ -1,7 +1,6 @@
 -- What `read_formed` leaves to be shown: 31, or what the moves give.
 use Rattle.board.specs.Record.{shown}
 use Rattle.reading.proofs.Handing.{formed_few, formed_many}
-use borrow.Author.Rules.{rules}
 use Rattle.reading.proofs.read_formed.Goals as goal
 
 pub returns-then-n-gt-MOST_MOVES : goal.returns-then-n-gt-MOST_MOVES

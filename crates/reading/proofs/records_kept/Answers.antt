@@ -1,7 +1,6 @@
 -- What `records_kept` leaves to be shown: case by case.
 use mathlib.Core.Path.{sym, ap}
 use Rattle.reading.specs.Inner.{kept}
-use borrow.Author.Rules.{rules}
 use Rattle.reading.proofs.records_kept.Goals as goal
 
 pub returns-in-Count : goal.returns-in-Count

@@ -4,7 +4,6 @@ use Rattle.board.specs.Record.{shown, laid}
 use Rattle.reading.specs.Lines.{ruled}
 use Rattle.sense.specs.Inner.{move_answered}
 use Rattle.reading.proofs.Taking.{take_said, takes_as}
-use borrow.Author.Rules.{rules}
 use Rattle.reading.proofs.take.Goals as goal
 
 pub make-requires : goal.make-requires

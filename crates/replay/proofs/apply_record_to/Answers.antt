@@ -4,7 +4,6 @@ use Rattle.board.specs.Record.{laid}
 use Rattle.board.specs.declared.Refusal.TheVariants.{OutOfRange}
 use Rattle.moves.specs.Record.{sayable_told}
 use Rattle.replay.proofs.Stepping.{moves_no, moves_as, step_said, step_none}
-use borrow.Author.Rules.{rules}
 use Rattle.replay.proofs.apply_record_to.Goals as goal
 
 pub make-requires : goal.make-requires

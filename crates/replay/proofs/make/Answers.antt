@@ -7,7 +7,6 @@ use Rattle.board.specs.Inner.{Sound}
 use Rattle.board.specs.declared.Board.{Board}
 use Rattle.moves.proofs.Ruling.{fine-allowed}
 use Rattle.replay.proofs.Stepping.{moves_yes, moves_no, made_yes, made_no, became, sound_after}
-use borrow.Author.Rules.{rules}
 use Rattle.replay.proofs.make.Goals as goal
 
 pub ruled_at-requires : goal.ruled_at-requires

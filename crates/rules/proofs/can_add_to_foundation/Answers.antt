@@ -3,10 +3,7 @@ use mathlib.Core.Path.{sym, ap, ◌∙◌}
 use mathlib.Core.Bool.{Bool}
 use mathlib.Core.List.{List}
 use Prim.Native.Nat.{ℕ}
-use borrow.Author.Tests.{not-true, not-false}
 use Rattle.base.specs.Answer.{given}
-use Rattle.card.proofs.Codes.{is_card_lem}
-use Rattle.board.specs.Table.{piles}
 use Rattle.questions.proofs.Asking.{after_no, after_yes, verdict_fine, shown_foundation}
 use Rattle.board.proofs.Soundness.{sound}
 use Rattle.rules.specs.Fit.{home_takes}

@@ -4,12 +4,10 @@ use mathlib.Core.Bool.{Bool}
 use mathlib.Core.List.{List}
 use Prim.Native.Nat.{ℕ}
 use native.Mathlib.Omega.{arith}
-use borrow.Author.Tests.{lt-ltb, le-ltb, not-true, not-false}
+use borrow.Author.Tests.{lt-ltb, le-ltb}
 use Rattle.base.specs.Answer.{given}
 use Rattle.card.specs.Card.{is_card}
 use Rattle.base.proofs.Words.{both, first_fails, second_fails}
-use Rattle.card.proofs.Codes.{is_card_lem}
-use Rattle.board.specs.Table.{piles}
 use Rattle.questions.proofs.Asking.{after_no, after_yes, verdict_fine, shown_column}
 use Rattle.board.proofs.Soundness.{sound}
 use Rattle.rules.specs.Fit.{fits_on}

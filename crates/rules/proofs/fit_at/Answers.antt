@@ -6,7 +6,6 @@ use Rattle.board.specs.Record.{column_at}
 use Rattle.board.proofs.Soundness.{column_length, column_code}
 use Rattle.runs.specs.Follows.{follows}
 use Rattle.rules.proofs.Laying.{fits_none, fits_top}
-use borrow.Author.Rules.{rules}
 use Rattle.rules.proofs.fit_at.Goals as goal
 
 pub bounds-counts-i : goal.bounds-counts-i

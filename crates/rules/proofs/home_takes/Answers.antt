@@ -6,7 +6,6 @@ use lib.Dec.{eqb}
 use lib.ListN.{get_or}
 use Rattle.card.proofs.Codes.{card_is}
 use Rattle.rules.specs.Fit.{home_takes}
-use borrow.Author.Rules.{rules}
 use Rattle.rules.proofs.home_takes.Goals as goal
 
 pub bounds-foundation-suit : goal.bounds-foundation-suit

@@ -4,7 +4,6 @@ use mathlib.Core.List.{List}
 use Prim.Native.Nat.{ℕ}
 use native.Mathlib.Omega.{arith}
 use Rattle.base.specs.Answer.{given}
-use Rattle.board.specs.Table.{piles}
 use Rattle.questions.proofs.Asking.{after_no, after_yes, verdict_fine, place_no, place_yes, shown_column}
 use Rattle.board.proofs.Soundness.{sound}
 use Rattle.runs.specs.Run.{run_length}

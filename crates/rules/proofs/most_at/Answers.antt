@@ -7,7 +7,6 @@ use Rattle.base.specs.Words.{listed}
 use Rattle.board.specs.Record.{column_at}
 use Rattle.rules.proofs.Laying.{usable_at_most, most_at_most, cells_at_most, most_word}
 use native.Mathlib.Nat.{lt_of_le_of_lt}
-use borrow.Author.Rules.{rules}
 use Rattle.rules.proofs.most_at.Goals as goal
 
 pub overflow_add-one_more : goal.overflow_add-one_more

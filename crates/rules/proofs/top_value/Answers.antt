@@ -1,7 +1,6 @@
 -- What `top_value` leaves to be shown: the column's last card, if it has one.
 use native.Mathlib.Omega.{arith}
 use Rattle.rules.proofs.Lengths.{value_none, value_some}
-use borrow.Author.Rules.{rules}
 use Rattle.rules.proofs.top_value.Goals as goal
 
 pub returns-then-count-eq0 : goal.returns-then-count-eq0

@@ -3,7 +3,6 @@ use mathlib.Core.Path.{sym, ap, ◌∙◌, subst}
 use Prim.Native.Nat.{ℕ, ◌-◌, ◌≤◌}
 use native.Mathlib.Omega.{arith}
 use Rattle.rules.proofs.Laying.{some_empty, usable_empty, usable_other, column_count}
-use borrow.Author.Rules.{rules}
 use Rattle.rules.proofs.usable_at.Goals as goal
 
 pub bounds-counts-to : goal.bounds-counts-to

@@ -8,7 +8,6 @@ use Rattle.card.specs.declared.Card.{Card}
 use Rattle.moves.specs.declared.Move.TheVariants.{TableauToTableau}
 use Rattle.moves.proofs.Writing.{adds_none, adds_same}
 use Rattle.generate.proofs.Columns.{run_short, run_there, code_there, run_said, run_found}
-use borrow.Author.Rules.{rules}
 use Rattle.run_moves.proofs.offer_run.Goals as goal
 
 pub overflow_mul-first : goal.overflow_mul-first

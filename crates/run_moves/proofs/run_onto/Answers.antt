@@ -7,7 +7,6 @@ use lib.ListN.{length}
 use Rattle.moves.specs.declared.Move.{Move}
 use Rattle.moves.proofs.Writing.{adds_none, adds_same, adds_long}
 use Rattle.generate.proofs.Columns.{reaches, none_fits_lem, too_far, only_run}
-use borrow.Author.Rules.{rules}
 use Rattle.run_moves.proofs.run_onto.Goals as goal
 
 pub returns-then-upper-top : goal.returns-then-upper-top

@@ -3,7 +3,6 @@ use mathlib.Core.Path.{sym}
 use native.Mathlib.Omega.{arith}
 use Rattle.moves.proofs.Writing.{adds_none, adds_same, adds_long}
 use Rattle.generate.proofs.Columns.{own_column_lem, runs_of, runs-room}
-use borrow.Author.Rules.{rules}
 use Rattle.run_moves.proofs.runs_between.Goals as goal
 
 pub returns-then-i-j : goal.returns-then-i-j

@@ -1,11 +1,7 @@
 -- What `runs_from` leaves to be shown: column after column.
 use native.Mathlib.Omega.{arith}
-use Prim.Native.Nat.{◌-◌}
-use Rattle.board.specs.Record.{shown, laid}
-use Rattle.generate.specs.Found.{found_between, found_from}
-use Rattle.generate.specs.declared.Way.TheVariants.{ColumnToColumn}
-use Rattle.generate.proofs.Writing.{Walked, walk_start, walk_room, walk_on, walk_long, walk_end}
-use borrow.Author.Rules.{rules}
+use Rattle.generate.specs.Found.{found_from}
+use Rattle.generate.proofs.Writing.{walk_start, walk_room, walk_on, walk_long, walk_end}
 use Rattle.run_moves.proofs.runs_from.Goals as goal
 
 pub run_at-run-requires : goal.run_at-run-requires

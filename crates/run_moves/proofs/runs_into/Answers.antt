@@ -1,10 +1,6 @@
 -- What `runs_into` leaves to be shown: length after length.
-use Prim.Native.Nat.{◌-◌}
-use Rattle.board.specs.Record.{shown, laid}
-use Rattle.generate.specs.Inner.{tried_run}
-use Rattle.generate.proofs.Writing.{Walked, walk_start, walk_room, walk_on, walk_long, walk_end}
+use Rattle.generate.proofs.Writing.{walk_start, walk_room, walk_on, walk_long, walk_end}
 use Rattle.generate.proofs.Columns.{reaches}
-use borrow.Author.Rules.{rules}
 use Rattle.run_moves.proofs.runs_into.Goals as goal
 
 pub loop-k-init : goal.loop-k-init

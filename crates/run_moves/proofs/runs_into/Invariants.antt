@@ -2,9 +2,7 @@
 use Prim.Native.Nat.{◌-◌}
 use Rattle.board.specs.Record.{shown, laid}
 use Rattle.generate.specs.Inner.{tried_run}
-use Rattle.generate.proofs.Writing.{Walked, walk_start, walk_room, walk_on, walk_long, walk_end}
-use Rattle.generate.proofs.Columns.{reaches}
-use borrow.Author.Rules.{rules}
+use Rattle.generate.proofs.Writing.{Walked}
 use Rattle.run_moves.proofs.runs_into.Given as goal
 
 abbrev pub invariant-loop-k : goal.invariant-loop-k

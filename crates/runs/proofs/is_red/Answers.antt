@@ -1,10 +1,8 @@
 -- What `is_red` leaves to be shown: the colour's case.
 use mathlib.Core.Path.{sym, ap, ◌∙◌}
-use Rattle.base.specs.Answer.{given}
 use Rattle.runs.specs.Follows.{is_red, red}
 use Rattle.card.specs.Suit.{color_of}
 use Rattle.card.specs.declared.Card.{Card}
-use borrow.Author.Rules.{rules}
 use Rattle.runs.proofs.is_red.Goals as goal
 
 pub returns-in-Red : goal.returns-in-Red

@@ -1,9 +1,7 @@
 -- What `may_lie_on` leaves to be shown: values first, then colours.
-use native.Mathlib.Omega.{arith}
 use borrow.Author.Tests.{ne_eqb}
 use Rattle.runs.specs.Follows.{follows}
 use Rattle.runs.proofs.Lying.{lies}
-use borrow.Author.Rules.{rules}
 use Rattle.runs.proofs.may_lie_on.Goals as goal
 
 pub returns-then-upper-one_more : goal.returns-then-upper-one_more

@@ -1,6 +1,5 @@
 -- What `chain_at` leaves to be shown: the chain was played on the record's arrays.
 use Rattle.safe.proofs.Handing.{chains_played}
-use borrow.Author.Rules.{rules}
 use Rattle.safe.proofs.chain_at.Goals as goal
 
 pub returns : goal.returns

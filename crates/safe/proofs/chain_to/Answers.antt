@@ -1,10 +1,7 @@
 -- What `chain_to` leaves to be shown: the moves made, then what is left of the chain.
 use mathlib.Core.Path.{sym, ◌∙◌}
-use Prim.Native.Nat.{◌-◌}
 use native.Mathlib.Omega.{arith}
-use Rattle.safe.proofs.Handing.{Chaining, chaining_start, chain_ready, chaining_turn, chaining_stop, chaining_full}
-use borrow.Author.Rules.{rules}
-use Rattle.board.specs.Record.{laid}
+use Rattle.safe.proofs.Handing.{chaining_start, chain_ready, chaining_turn, chaining_stop, chaining_full}
 use Rattle.safe.proofs.chain_to.Goals as goal
 
 pub loop-moves-init : goal.loop-moves-init

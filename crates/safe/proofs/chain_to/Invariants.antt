@@ -1,9 +1,6 @@
 -- What `chain_to` leaves to be shown: the moves made, then what is left of the chain.
-use mathlib.Core.Path.{sym, ◌∙◌}
 use Prim.Native.Nat.{◌-◌}
-use native.Mathlib.Omega.{arith}
-use Rattle.safe.proofs.Handing.{Chaining, chaining_start, chain_ready, chaining_turn, chaining_stop, chaining_full}
-use borrow.Author.Rules.{rules}
+use Rattle.safe.proofs.Handing.{Chaining}
 use Rattle.board.specs.Record.{laid}
 use Rattle.safe.proofs.chain_to.Given as goal
 

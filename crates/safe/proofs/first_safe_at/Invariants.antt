@@ -1,10 +1,6 @@
 -- What `first_safe_at` leaves to be shown: place by place, nothing safe at those passed.
-use mathlib.Core.Path.{sym, ap, ◌∙◌}
 use Prim.Native.Nat.{◌-◌}
-use native.Mathlib.Omega.{arith}
-use Rattle.safe.specs.declared.SafeMove.TheVariants.{Is}
-use Rattle.safe.proofs.Passing.{Passed, pass_none, pass_empty, pass_unsafe, pass_all, safe_here, top_value_lem}
-use borrow.Author.Rules.{rules}
+use Rattle.safe.proofs.Passing.{Passed}
 use Rattle.board.specs.Record.{laid}
 use Rattle.safe.proofs.first_safe_at.Given as goal
 

@@ -5,7 +5,6 @@ use Prim.Native.Nat.{ℕ}
 use Rattle.card.specs.Card.{is_card}
 use Rattle.card.proofs.Codes.{code_is_card}
 use Rattle.safe.proofs.Judging.{next_and_safe, not_next_lem}
-use borrow.Author.Rules.{rules}
 use Rattle.safe.proofs.goes_home.Goals as goal
 
 pub home_takes-requires : goal.home_takes-requires

@@ -1,6 +1,5 @@
 -- What `is_safe` leaves to be shown: the board's refusals, then the code's.
 use mathlib.Core.Path.{sym, ◌∙◌}
-use borrow.Author.Tests.{not-true, not-false}
 use Rattle.board.proofs.Soundness.{sound}
 use Rattle.questions.proofs.Asking.{after_no, verdict_fine}
 use Rattle.safe.specs.Asked.{safe_asked}

@@ -1,9 +1,5 @@
 -- What `is_safe_at` leaves to be shown: a checking loop over the four suits.
-use mathlib.Core.Path.{◌≡◌}
-use mathlib.Core.Bool.{true}
-use Prim.Native.Nat.{◌-◌, ◌≤◌}
 use native.Mathlib.Omega.{arith}
-use Rattle.base.specs.Words.{every}
 use Rattle.base.proofs.Words.{every_none, every_more}
 use Rattle.safe.proofs.Judging.{enough, low_safe, one_enough, too_few, all_enough}
 use borrow.Author.Rules.{rules}

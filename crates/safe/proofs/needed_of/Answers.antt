@@ -1,6 +1,5 @@
 -- What `needed_of` leaves to be shown: the other colour, its own suit, the other suit of its colour.
 use Rattle.safe.proofs.Needing.{needs_one_less, needs_none, needs_two_less}
-use borrow.Author.Rules.{rules}
 use Rattle.safe.proofs.needed_of.Goals as goal
 
 pub returns-then-is_red : goal.returns-then-is_red

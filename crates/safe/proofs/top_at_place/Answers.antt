@@ -1,7 +1,6 @@
 -- What `top_at_place` leaves to be shown: a column's top or a cell's card.
 use Rattle.board.specs.Record.{column_at}
 use Rattle.safe.proofs.Places.{column_place, cell_place}
-use borrow.Author.Rules.{rules}
 use Rattle.safe.proofs.top_at_place.Goals as goal
 
 pub returns-then-place-lt8 : goal.returns-then-place-lt8

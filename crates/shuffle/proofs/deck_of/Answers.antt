@@ -1,8 +1,6 @@
 -- What `deck_of` leaves to be shown: a card at each turn, and the pack that is left.
 use mathlib.Core.Path.{refl}
-use Prim.Native.Nat.{◌-◌}
-use Rattle.shuffle.proofs.Drawing.{Drawing, draw_begin, place_below_lem, draw_next, draw_end}
-use borrow.Author.Rules.{rules}
+use Rattle.shuffle.proofs.Drawing.{draw_begin, place_below_lem, draw_next, draw_end}
 use Rattle.shuffle.proofs.deck_of.Goals as goal
 
 pub loop-dealt-init : goal.loop-dealt-init

@@ -1,9 +1,7 @@
 -- What `whole_pack` leaves to be shown: the pack is filled place by place.
-use mathlib.Core.Path.{refl}
 use Prim.Native.Nat.{◌-◌}
-use Rattle.base.proofs.Filling.{Filled, filled_none, filled_more, filled_end}
+use Rattle.base.proofs.Filling.{Filled}
 use Rattle.card.specs.Pack.{card_at}
-use borrow.Author.Rules.{rules}
 use Rattle.shuffle.proofs.whole_pack.Given as goal
 
 abbrev pub invariant-loop-place : goal.invariant-loop-place

@@ -1,7 +1,6 @@
 -- What `fnv1a` leaves to be shown: a hash that goes on byte by byte.
-use Rattle.std.proofs.Common.{◌≡◌, ◌-◌, ◌≤◌, length, get_or, rules}
-use Rattle.base.specs.Words.{listed}
-use Rattle.signature.specs.Fnv.{offset, fnv_from, fnv}
+use Rattle.std.proofs.Common.{get_or, rules}
+use Rattle.signature.specs.Fnv.{offset, fnv}
 use Rattle.signature.proofs.Hashing.{hash_none, hash_more, hash_all}
 use Rattle.signature.proofs.fnv1a.Goals as goal
 

@@ -1,8 +1,7 @@
 -- What `fnv1a` leaves to be shown: a hash that goes on byte by byte.
-use Rattle.std.proofs.Common.{◌≡◌, ◌-◌, ◌≤◌, length, get_or, rules}
+use Rattle.std.proofs.Common.{◌≡◌, ◌-◌, ◌≤◌, length, get_or}
 use Rattle.base.specs.Words.{listed}
-use Rattle.signature.specs.Fnv.{offset, fnv_from, fnv}
-use Rattle.signature.proofs.Hashing.{hash_none, hash_more, hash_all}
+use Rattle.signature.specs.Fnv.{offset, fnv_from}
 use Rattle.signature.proofs.fnv1a.Given as goal
 
 abbrev pub invariant-loop-k : goal.invariant-loop-k

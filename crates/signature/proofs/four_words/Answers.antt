@@ -1,6 +1,5 @@
 -- What `four_words` leaves to be shown: the four are the list.
 use Rattle.signature.proofs.Fours.{four_are}
-use Rattle.std.proofs.Common.{rules}
 use Rattle.signature.proofs.four_words.Goals as goal
 
 pub returns : goal.returns

@@ -1,5 +1,5 @@
 -- What `hash_at` leaves to be shown: the part is the column.
-use Rattle.std.proofs.Common.{ap, ◌∙◌, arith, rules}
+use Rattle.std.proofs.Common.{ap, ◌∙◌, arith}
 use Rattle.signature.specs.Fnv.{fnv}
 use Rattle.board.proofs.Soundness.{column_part}
 use Rattle.signature.proofs.hash_at.Goals as goal

@@ -1,6 +1,6 @@
 -- What `hashes_at` leaves to be shown: the array is filled hash by hash.
-use Rattle.std.proofs.Common.{◌-◌, refl, ◌∙◌, rules}
-use Rattle.base.proofs.Filling.{Filled, filled_none, filled_more, filled_end}
+use Rattle.std.proofs.Common.{refl, ◌∙◌}
+use Rattle.base.proofs.Filling.{filled_none, filled_more, filled_end}
 use Rattle.board.specs.Record.{column_at}
 use Rattle.signature.specs.Fnv.{fnv}
 use Rattle.signature.proofs.Columns.{hashes_are}

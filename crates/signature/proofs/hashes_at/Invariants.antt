@@ -1,9 +1,8 @@
 -- What `hashes_at` leaves to be shown: the array is filled hash by hash.
-use Rattle.std.proofs.Common.{◌-◌, refl, ◌∙◌, rules}
-use Rattle.base.proofs.Filling.{Filled, filled_none, filled_more, filled_end}
+use Rattle.std.proofs.Common.{◌-◌}
+use Rattle.base.proofs.Filling.{Filled}
 use Rattle.board.specs.Record.{column_at}
 use Rattle.signature.specs.Fnv.{fnv}
-use Rattle.signature.proofs.Columns.{hashes_are}
 use Rattle.signature.proofs.hashes_at.Given as goal
 
 abbrev pub invariant-loop-i : goal.invariant-loop-i

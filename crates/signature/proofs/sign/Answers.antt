@@ -1,5 +1,5 @@
 -- What `sign` leaves to be shown: part after part.
-use Rattle.std.proofs.Common.{ap, ◌∙◌, rules}
+use Rattle.std.proofs.Common.{ap, ◌∙◌}
 use Rattle.base.specs.Rising.{rising}
 use Rattle.signature.proofs.Joined.{signed_by}
 use Rattle.signature.proofs.sign.Goals as goal

@@ -1,5 +1,5 @@
 -- What `signature_at` leaves to be shown: the hashes are those of the columns shown.
-use Rattle.std.proofs.Common.{ap, ◌∙◌, rules}
+use Rattle.std.proofs.Common.{ap, ◌∙◌}
 use Rattle.board.specs.Record.{shown}
 use Rattle.signature.specs.Signed.{signed, signature_of}
 use Rattle.signature.proofs.signature_at.Goals as goal

@@ -1,5 +1,5 @@
 -- What `step` leaves to be shown: the machine's exclusive or is that of the digits.
-use Rattle.std.proofs.Common.{ℕ, ◌*◌, ◌%◌, ◌^◌, sym, ap, ◌∙◌, rules}
+use Rattle.std.proofs.Common.{ℕ, ◌*◌, ◌%◌, ◌^◌, sym, ap, ◌∙◌}
 use Rattle.signature.specs.Fnv.{prime, fnv_step}
 use Rattle.signature.proofs.Digits.{xor_digits_lem}
 use Rattle.signature.proofs.step.Goals as goal

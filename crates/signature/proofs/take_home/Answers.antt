@@ -1,5 +1,5 @@
 -- What `take_home` leaves to be shown: the suit's mark, then its cards.
-use Rattle.std.proofs.Common.{arith, rules}
+use Rattle.std.proofs.Common.{arith}
 use Rattle.signature.specs.Signed.{home_words}
 use Rattle.signature.proofs.Homes.{home_words_lem}
 use Rattle.signature.proofs.take_home.Goals as goal

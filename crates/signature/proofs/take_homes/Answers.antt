@@ -1,5 +1,5 @@
 -- What `take_homes` leaves to be shown: suit by suit.
-use Rattle.std.proofs.Common.{◌≡◌, ℕ, ◌-◌, ◌≤◌, ap, ◌∙◌, arith, rules}
+use Rattle.std.proofs.Common.{◌≡◌, ℕ, ap, ◌∙◌, arith, rules}
 use Rattle.base.specs.Words.{listed, concat}
 use Rattle.signature.specs.Fnv.{offset, fnv_from, fnv}
 use Rattle.signature.specs.Signed.{home_words}

@@ -1,9 +1,8 @@
 -- What `take_homes` leaves to be shown: suit by suit.
-use Rattle.std.proofs.Common.{◌≡◌, ℕ, ◌-◌, ◌≤◌, ap, ◌∙◌, arith, rules}
+use Rattle.std.proofs.Common.{◌≡◌, ◌-◌, ◌≤◌}
 use Rattle.base.specs.Words.{listed, concat}
-use Rattle.signature.specs.Fnv.{offset, fnv_from, fnv}
+use Rattle.signature.specs.Fnv.{offset, fnv_from}
 use Rattle.signature.specs.Signed.{home_words}
-use Rattle.signature.proofs.Hashing.{lists_none, lists_more}
 use Rattle.signature.proofs.take_homes.Given as goal
 
 abbrev pub invariant-loop-i : goal.invariant-loop-i

@@ -1,5 +1,5 @@
 -- What `take_pile` leaves to be shown: a hash that goes on card by card.
-use Rattle.std.proofs.Common.{◌≡◌, ℕ, ◌+◌, ◌-◌, ◌*◌, ◌≤◌, refl, ap, ◌∙◌, arith, rules}
+use Rattle.std.proofs.Common.{◌≡◌, ℕ, ◌+◌, ◌*◌, refl, ap, ◌∙◌, arith, rules}
 use Rattle.base.specs.Words.{listed}
 use Rattle.board.specs.Table.{pile}
 use Rattle.signature.specs.Fnv.{fnv_from}

@@ -1,9 +1,7 @@
 -- What `take_pile` leaves to be shown: a hash that goes on card by card.
-use Rattle.std.proofs.Common.{◌≡◌, ℕ, ◌+◌, ◌-◌, ◌*◌, ◌≤◌, refl, ap, ◌∙◌, arith, rules}
+use Rattle.std.proofs.Common.{◌≡◌, ◌+◌, ◌-◌, ◌*◌, ◌≤◌}
 use Rattle.base.specs.Words.{listed}
-use Rattle.board.specs.Table.{pile}
 use Rattle.signature.specs.Fnv.{fnv_from}
-use Rattle.signature.proofs.Hashing.{hash_none, hash_more}
 use Rattle.signature.proofs.take_pile.Given as goal
 
 abbrev pub invariant-loop-v : goal.invariant-loop-v

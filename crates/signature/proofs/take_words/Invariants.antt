@@ -1,8 +1,7 @@
 -- What `take_words` leaves to be shown: a hash that goes on word by word.
-use Rattle.std.proofs.Common.{◌≡◌, ◌-◌, ◌≤◌, length, get_or, refl, rules}
+use Rattle.std.proofs.Common.{◌≡◌, ◌-◌, ◌≤◌, length, get_or}
 use Rattle.base.specs.Words.{listed}
 use Rattle.signature.specs.Fnv.{fnv_from}
-use Rattle.signature.proofs.Hashing.{hash_none, hash_more, hash_all}
 use Rattle.signature.proofs.take_words.Given as goal
 
 abbrev pub invariant-loop-k : goal.invariant-loop-k

@@ -1,6 +1,5 @@
 -- What `times_prime` leaves to be shown: the sums of shifts are the product.
 use Rattle.signature.proofs.Product.{shifted_sums}
-use Rattle.std.proofs.Common.{rules}
 use Rattle.signature.proofs.times_prime.Goals as goal
 
 pub returns : goal.returns

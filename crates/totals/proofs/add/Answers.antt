@@ -1,7 +1,5 @@
 -- What `add` leaves to be shown: refusal by refusal, then the sum.
-use borrow.Author.Tests.{not-true, not-false}
 use Rattle.sheets.proofs.Answering.{good_words, says_first, says_second, says_settings, says_common, addable, says_sum}
-use borrow.Author.Rules.{rules}
 use Rattle.totals.proofs.add.Goals as goal
 
 pub returns-then-not-examine : goal.returns-then-not-examine

@@ -8,7 +8,6 @@ use Rattle.sheets.specs.Promises.{Small, mark_chosen}
 use Rattle.sheets.proofs.Goodness.{good_is}
 use Rattle.sheets.proofs.Figuring.{room_1, room_2, small_good, small_3, small_4, all-added}
 use lib.ListN.{length-set}
-use borrow.Author.Rules.{rules}
 use Rattle.totals.proofs.add_figures.Goals as goal
 
 pub bounds-into-2 : goal.bounds-into-2

@@ -1,7 +1,6 @@
 -- What `add_mark` leaves to be shown: the other sheet's mark is better, or not.
 use Rattle.sheets.proofs.Totals.{chosen_other, chosen_own}
 use mathlib.Core.Path.{refl}
-use borrow.Author.Rules.{rules}
 use Rattle.totals.proofs.add_mark.Goals as goal
 
 pub shape_of-into-then-yours-mine : goal.shape_of-into-then-yours-mine

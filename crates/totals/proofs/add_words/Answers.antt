@@ -1,9 +1,7 @@
 -- What `add_words` leaves to be shown: the words before i are added.
-use Prim.Native.Nat.{◌-◌}
 use native.Mathlib.Omega.{arith}
-use Rattle.sheets.proofs.Totals.{Going, going_start, going_fits, going_turn, going_end}
+use Rattle.sheets.proofs.Totals.{going_start, going_fits, going_turn, going_end}
 use Rattle.sheets.proofs.Totals.{going_in}
-use borrow.Author.Rules.{rules}
 use Rattle.totals.proofs.add_words.Goals as goal
 
 pub loop-i-init : goal.loop-i-init

@@ -1,7 +1,5 @@
 -- What `in_both` leaves to be shown: one, then the other.
 use Rattle.sheets.proofs.Totals.{both_not, both_by}
-use borrow.Author.Tests.{not-true, not-false}
-use borrow.Author.Rules.{rules}
 use Rattle.totals.proofs.in_both.Goals as goal
 
 pub returns-then-not-covered_at : goal.returns-then-not-covered_at

@@ -1,8 +1,6 @@
 -- What `none_common` leaves to be shown: none of the numbers before i + 1 is in both.
-use Prim.Native.Nat.{◌-◌}
-use Rattle.sheets.proofs.Totals.{alone, common_one, common_none, common_end}
-use Rattle.sheets.proofs.Loops.{Held, held_none}
-use borrow.Author.Rules.{rules}
+use Rattle.sheets.proofs.Totals.{common_one, common_none, common_end}
+use Rattle.sheets.proofs.Loops.{held_none}
 use Rattle.totals.proofs.none_common.Goals as goal
 
 pub loop-i-init : goal.loop-i-init

@@ -1,8 +1,7 @@
 -- What `none_common` leaves to be shown: none of the numbers before i + 1 is in both.
 use Prim.Native.Nat.{◌-◌}
-use Rattle.sheets.proofs.Totals.{alone, common_one, common_none, common_end}
-use Rattle.sheets.proofs.Loops.{Held, held_none}
-use borrow.Author.Rules.{rules}
+use Rattle.sheets.proofs.Totals.{alone}
+use Rattle.sheets.proofs.Loops.{Held}
 use Rattle.totals.proofs.none_common.Given as goal
 
 abbrev pub invariant-loop-i : goal.invariant-loop-i

@@ -1,6 +1,5 @@
 -- What `settings_equal` leaves to be shown: test by test.
 use Rattle.sheets.proofs.Totals.{settings_budget, settings_capacity, settings-flag}
-use borrow.Author.Rules.{rules}
 use Rattle.totals.proofs.settings_equal.Goals as goal
 
 pub returns-then-a-b : goal.returns-then-a-b

@@ -1,9 +1,6 @@
 -- What `first_unwritable` leaves to be shown: so far each can be written.
-use Prim.Native.Nat.{◌-◌}
 use native.Mathlib.Omega.{arith}
-use borrow.Author.Tests.{not-true, not-false}
-use lib.ListN.{length}
-use Rattle.writing.proofs.Looking.{Looked, looked_start, five_there, looked_turn, looked_stop, looked_end}
+use Rattle.writing.proofs.Looking.{looked_start, five_there, looked_turn, looked_stop, looked_end}
 use borrow.Author.Rules.{rules}
 use Rattle.writing.proofs.first_unwritable.Goals as goal
 

@@ -4,7 +4,6 @@ use native.Mathlib.Omega.{arith}
 use lib.ListN.{length}
 use Rattle.base.proofs.Putting.{puts_same}
 use Rattle.writing.proofs.Writing.{gap_none, gap_some, puts_nothing}
-use borrow.Author.Rules.{rules}
 use Rattle.writing.proofs.put_gap.Goals as goal
 
 pub returns-then-at-eq0 : goal.returns-then-at-eq0

@@ -6,7 +6,6 @@ use Rattle.notation.specs.Jot.{WellMade}
 use Rattle.sense.specs.Meant.{jot_of}
 use Rattle.sense.proofs.Well.{jot_well}
 use Rattle.writing.proofs.Writing.{gap-room, jot_room, jot_next}
-use borrow.Author.Rules.{rules}
 use Rattle.writing.proofs.put_move.Goals as goal
 
 pub put_gap-start-requires : goal.put_gap-start-requires

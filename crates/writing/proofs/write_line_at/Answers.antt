@@ -3,7 +3,6 @@ use lib.ListN.{length}
 use Rattle.board.specs.declared.Refusal.TheVariants.{NotWritable, LittleRoom}
 use Rattle.replay.proofs.Replaying.{line_five}
 use Rattle.writing.proofs.Telling.{tells_no, tells_at, tells_text, bad_move_lem, no_sign, no_room_lem, all_told, all_ready}
-use borrow.Author.Rules.{rules}
 use Rattle.writing.proofs.write_line_at.Goals as goal
 
 pub play_through-stopped-requires : goal.play_through-stopped-requires

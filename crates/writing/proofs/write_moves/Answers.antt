@@ -1,9 +1,6 @@
 -- What `write_moves` leaves to be shown: what is written and what is left are the whole text.
-use Prim.Native.Nat.{◌-◌}
 use native.Mathlib.Omega.{arith}
-use lib.ListN.{length}
-use Rattle.board.specs.Record.{laid}
-use Rattle.writing.proofs.Writing.{Written, written_start, five_more, written_next, written_turn, written_long, written_end}
+use Rattle.writing.proofs.Writing.{written_start, five_more, written_next, written_turn, written_long, written_end}
 use borrow.Author.Rules.{rules}
 use Rattle.writing.proofs.write_moves.Goals as goal
 

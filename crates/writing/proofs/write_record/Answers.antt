@@ -2,7 +2,6 @@
 use mathlib.Core.Path.{sym, ap, ◌∙◌}
 use Rattle.moves.specs.Record.{sayable_told}
 use Rattle.writing.proofs.Writing.{decoded_move, decoded_some, next_fits, next_ready, next_notes}
-use borrow.Author.Rules.{rules}
 use Rattle.writing.proofs.write_record.Goals as goal
 
 pub returns-in_default : goal.returns-in_default

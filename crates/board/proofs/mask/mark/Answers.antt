@@ -5,7 +5,6 @@ use mathlib.Core.List.{◌∷◌, []}
 use Prim.Native.Nat.{ℕ, ◌+◌, ◌*◌, ◌/◌, ◌%◌, ◌^◌, ◌<◌}
 use native.Mathlib.Omega.{arith}
 use lib.Pow.{pow-lt}
-use borrow.Author.Rules.{rules}
 use Rattle.card.specs.Card.{is_card}
 use Rattle.card.specs.Pack.{place_of}
 use Rattle.card.proofs.Codes.{place_below_lem}

@@ -3,13 +3,11 @@ use mathlib.Core.Path.{subst}
 use mathlib.Core.List.{List, ◌∷◌, []}
 use Prim.Native.Nat.{ℕ, ◌-◌}
 use lib.ListN.{length, get_or}
-use borrow.Author.Rules.{rules}
 use Rattle.base.specs.Words.{listed, concat}
-use Rattle.card.specs.Card.{is_card}
-use Rattle.base.proofs.Words.{all_at, singles}
+use Rattle.base.proofs.Words.{singles}
 use Rattle.board.specs.Inner.{Marks}
 use Rattle.board.specs.declared.Seen.{Seen}
-use Rattle.board.proofs.Marks.{Passed, pass_none, pass_more, pass_stop, pass_end}
+use Rattle.board.proofs.Marks.{Passed}
 use Rattle.board.proofs.mask.mark_all.Given as goal
 
 abbrev each : List ℕ → ℕ → List ℕ

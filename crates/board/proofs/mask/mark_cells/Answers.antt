@@ -1,16 +1,15 @@
 -- What `mark_cells` leaves to be shown: a loop over the cells, each a list of one card or none.
 use mathlib.Core.Path.{◌≡◌, sym, subst}
 use mathlib.Core.List.{List, ◌∷◌, []}
-use Prim.Native.Nat.{ℕ, ◌-◌}
+use Prim.Native.Nat.{ℕ}
 use native.Mathlib.Omega.{arith}
 use lib.ListN.{length, get_or}
 use Rattle.base.specs.Words.{listed, concat}
 use Rattle.board.specs.Inner.{Marks}
 use Rattle.board.specs.declared.Seen.{Seen}
-use Rattle.board.proofs.Marks.{Passed, pass_none, pass_more, pass_stop, pass_end}
+use Rattle.board.proofs.Marks.{pass_none, pass_more, pass_stop, pass_end}
 use Rattle.board.specs.Table.{held}
 use Rattle.board.proofs.Tables.{held-each}
-use borrow.Author.Rules.{rules}
 use Rattle.board.proofs.mask.mark_cells.Goals as goal
 
 abbrev each : List ℕ → ℕ → List ℕ

@@ -1,18 +1,17 @@
 -- What `mark_columns` leaves to be shown: a loop over the eight parts.
 use mathlib.Core.Path.{◌≡◌, sym, ◌∙◌, subst}
 use mathlib.Core.List.{List}
-use Prim.Native.Nat.{ℕ, ◌-◌, ◌<◌}
+use Prim.Native.Nat.{ℕ, ◌<◌}
 use native.Mathlib.Omega.{arith}
 use Rattle.base.specs.Words.{listed, concat}
 use Rattle.board.specs.Inner.{Marks}
-use Rattle.board.proofs.Marks.{Passed, pass_none, pass_more, pass_stop, pass_end}
+use Rattle.board.proofs.Marks.{pass_none, pass_more, pass_stop, pass_end}
 use mathlib.Core.Bool.{true}
 use Rattle.base.specs.Words.{all}
 use Rattle.card.specs.Card.{is_card}
 use Rattle.base.proofs.Words.{all-concat, every_at}
 use Rattle.board.specs.Inner.{part_at}
 use Rattle.board.proofs.Tables.{part_is}
-use borrow.Author.Rules.{rules}
 use Rattle.board.proofs.mask.mark_columns.Goals as goal
 
 part-cards : (f : ℕ → List ℕ) (i : ℕ) → i < 8 → all is_card (concat (listed 8 f)) ≡ true → all is_card (f i) ≡ true
@@ -35,8 +34,11 @@ slice_bounds-mark_all-end c = omega (arith, c.wide.ensures, c.requires.parts.wit
 
 pub mark_all-requires : goal.mark_all-requires
 mark_all-requires c =
-    let a = c.args in record { seen_bound = c.loop-i.invariant.marks.below; s_value = subst (λ (l : List ℕ). all is_card l ≡ true) (sym (part_is a.starts.now a.counts.now a.codes.now c.loop-i.i c.wide.result c.wide.ensures))
-          (part-cards (part_at a.starts.now a.counts.now a.codes.now) c.loop-i.i c.loop-i-test.true c.requires.codes_value) }
+    let a = c.args in record {
+      seen_bound = c.loop-i.invariant.marks.below;
+      s_value = subst (λ (l : List ℕ). all is_card l ≡ true) (sym (part_is a.starts.now a.counts.now a.codes.now c.loop-i.i c.wide.result c.wide.ensures))
+          (part-cards (part_at a.starts.now a.counts.now a.codes.now) c.loop-i.i c.loop-i-test.true c.requires.codes_value);
+    }
 
 pub returns-in_default : goal.returns-in_default
 returns-in_default c =

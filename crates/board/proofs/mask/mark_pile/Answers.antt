@@ -1,16 +1,15 @@
 -- What `mark_pile` leaves to be shown: a loop over the suit's cards, ace upward.
 use mathlib.Core.Path.{subst}
 use mathlib.Core.List.{List, ◌∷◌, []}
-use Prim.Native.Nat.{ℕ, ◌+◌, ◌-◌, ◌*◌}
+use Prim.Native.Nat.{ℕ, ◌+◌, ◌*◌}
 use native.Mathlib.Omega.{arith}
 use Rattle.base.specs.Words.{listed, concat}
 use Rattle.board.specs.Inner.{Marks}
 use Rattle.board.specs.declared.Seen.{Seen}
-use Rattle.board.proofs.Marks.{Passed, pass_none, pass_more, pass_stop, pass_end}
+use Rattle.board.proofs.Marks.{pass_none, pass_more, pass_stop, pass_end}
 use Rattle.base.proofs.Words.{singles_listed}
 use Rattle.card.proofs.Codes.{code_in_suit}
 use Rattle.board.specs.Table.{pile}
-use borrow.Author.Rules.{rules}
 use Rattle.board.proofs.mask.mark_pile.Goals as goal
 
 abbrev each : ℕ → ℕ → List ℕ

@@ -1,14 +1,12 @@
 -- What `mark_piles` leaves to be shown: a loop over the four piles.
 use mathlib.Core.List.{List}
 use Prim.Native.Nat.{ℕ, ◌-◌}
-use native.Mathlib.Omega.{arith}
 use lib.ListN.{get_or}
 use Rattle.base.specs.Words.{listed, concat}
 use Rattle.board.specs.Inner.{Marks}
 use Rattle.board.specs.declared.Seen.{Seen}
-use Rattle.board.proofs.Marks.{Passed, pass_none, pass_more, pass_stop, pass_end}
+use Rattle.board.proofs.Marks.{Passed}
 use Rattle.board.specs.Table.{pile, piles}
-use borrow.Author.Rules.{rules}
 use Rattle.board.proofs.mask.mark_piles.Given as goal
 
 abbrev each : List ℕ → ℕ → List ℕ

@@ -1,11 +1,9 @@
 -- What `all_of` leaves to be shown: a checking loop over a list.
-use mathlib.Core.Path.{◌≡◌, sym, ◌∙◌}
-use mathlib.Core.Bool.{Bool, true}
+use mathlib.Core.Path.{sym, ◌∙◌}
+use mathlib.Core.Bool.{Bool}
 use mathlib.Core.List.{List}
-use Prim.Native.Nat.{ℕ, ◌-◌, ◌≤◌}
+use Prim.Native.Nat.{ℕ}
 use lib.ListN.{length, get_or}
-use borrow.Author.Tests.{not-true, not-false}
-use Rattle.base.specs.Words.{every}
 use Rattle.base.proofs.Words.{every_none, every_more, every_end, every_fails, all-every}
 use Rattle.board.specs.Inner.{is_kind}
 use Rattle.board.specs.declared.Kind.{Kind}

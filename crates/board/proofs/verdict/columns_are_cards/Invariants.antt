@@ -1,16 +1,11 @@
 -- What `columns_are_cards` leaves to be shown: a checking loop over the eight parts.
-use mathlib.Core.Path.{◌≡◌, sym, ap, ◌∙◌}
+use mathlib.Core.Path.{◌≡◌}
 use mathlib.Core.Bool.{Bool, true}
 use mathlib.Core.List.{List}
 use Prim.Native.Nat.{ℕ, ◌-◌, ◌≤◌}
-use native.Mathlib.Omega.{arith}
-use borrow.Author.Tests.{not-true, not-false}
 use Rattle.base.specs.Words.{every, all}
 use Rattle.card.specs.Card.{is_card}
-use Rattle.base.proofs.Words.{every_none, every_more, every_end, every_fails, all-concat}
 use Rattle.board.specs.Inner.{part_at}
-use Rattle.board.proofs.Tables.{part_is}
-use borrow.Author.Rules.{rules}
 use Rattle.board.proofs.verdict.columns_are_cards.Given as goal
 
 abbrev here : List ℕ → List ℕ → List ℕ → ℕ → Bool

@@ -1,10 +1,7 @@
 -- What `inspect` leaves to be shown: the shape first, and then what the record shows.
 use mathlib.Core.Path.{sym, ◌∙◌}
-use borrow.Author.Tests.{not-true, not-false}
-use Rattle.board.specs.Table.{piles}
 use Rattle.board.proofs.Tables.{good_piles}
 use Rattle.board.proofs.Verdicts.{bad_shape, bad_counts, bad_foundation, bad_spare, all-shapely, record_parts, verdict_record}
-use borrow.Author.Rules.{rules}
 use Rattle.board.proofs.verdict.inspect.Goals as goal
 
 pub returns-then-not-all_of : goal.returns-then-not-all_of

@@ -1,9 +1,6 @@
 -- What `is_kind` leaves to be shown, case by case.
 use borrow.Author.Tests.{eq-eqb, ne_eqb}
-use Rattle.base.specs.Answer.{given}
-use Rattle.card.proofs.Codes.{is_card_lem}
 use Rattle.board.specs.Verdict.{is_cell}
-use borrow.Author.Rules.{rules}
 use Rattle.board.proofs.verdict.is_kind.Goals as goal
 
 pub returns-then-x-eq255 : goal.returns-then-x-eq255

@@ -1,9 +1,7 @@
 -- What `mark_table` leaves to be shown: piles, then cells, then columns.
 use lib.Dec.{lit<}
-use Rattle.base.specs.Answer.{given}
-use Rattle.board.specs.Table.{held, cards_on}
+use Rattle.board.specs.Table.{cards_on}
 use Rattle.board.proofs.Marks.{marks_more, marks_twice, marks_as}
-use borrow.Author.Rules.{rules}
 use Rattle.board.proofs.verdict.mark_table.Goals as goal
 
 pub mark_piles-requires : goal.mark_piles-requires

@@ -2,9 +2,7 @@
 use mathlib.Core.Path.{sym}
 use mathlib.Core.List.{[]}
 use lib.Dec.{lit<}
-use Rattle.base.specs.Answer.{given}
 use Rattle.board.proofs.Marks.{marks_as, holds_none, holds_once}
-use borrow.Author.Rules.{rules}
 use Rattle.board.proofs.verdict.none_twice.Goals as goal
 
 pub mark_all-requires : goal.mark_all-requires

@@ -1,11 +1,10 @@
 -- What `spare_is_zero` leaves to be shown: a checking loop over the eight columns' unused room.
-use mathlib.Core.Path.{◌≡◌, sym, ap, ◌∙◌}
-use mathlib.Core.Bool.{Bool, true}
+use mathlib.Core.Path.{sym, ap, ◌∙◌}
+use mathlib.Core.Bool.{Bool}
 use mathlib.Core.List.{List}
-use Prim.Native.Nat.{ℕ, ◌-◌, ◌≤◌}
+use Prim.Native.Nat.{ℕ}
 use native.Mathlib.Omega.{arith}
-use borrow.Author.Tests.{not-true, not-false}
-use Rattle.base.specs.Words.{every, all}
+use Rattle.base.specs.Words.{all}
 use Rattle.base.proofs.Words.{every_none, every_more, every_end, every_fails}
 use Rattle.board.specs.Record.{room, is_zero, spare_at}
 use Rattle.board.proofs.Tables.{spare_is, at_most_lem}

@@ -1,10 +1,7 @@
 -- What `verdict_on` leaves to be shown: codes, then repeats, then missing cards.
 use mathlib.Core.Path.{sym, ◌∙◌}
-use borrow.Author.Tests.{not-true, not-false}
-use Rattle.base.specs.Answer.{given}
 use Rattle.board.proofs.Tables.{good_cells}
 use Rattle.board.proofs.Verdicts.{bad_cell, bad_code, seen_twice, seen_all, seen_some}
-use borrow.Author.Rules.{rules}
 use Rattle.board.proofs.verdict.verdict_on.Goals as goal
 
 pub returns-then-not-all_of : goal.returns-then-not-all_of

@@ -1,5 +1,4 @@
 -- What `decode` leaves to be shown: the test is the definition's, and past it the card is.
-use borrow.Author.Rules.{rules}
 use Rattle.card.specs.Card.{card_asked}
 use Rattle.card.proofs.Card.decode.Goals as goal
 

@@ -1,5 +1,4 @@
 -- What `from_u8` leaves to be shown: the test is the definition's, and past it the suit is.
-use borrow.Author.Rules.{rules}
 use borrow.Author.Tests.{le-ltb, lt-ltb}
 use native.Mathlib.Omega.{arith}
 use Rattle.card.specs.Suit.{suit_asked}

@@ -3,13 +3,10 @@ use mathlib.Core.Path.{sym, ap, ◌∙◌}
 use mathlib.Core.List.{List, [], ◌∷◌}
 use Prim.Native.Nat.{ℕ}
 use lib.ListN.{replicate}
-use borrow.Author.Tests.{not-true, not-false}
 use Rattle.base.specs.Answer.{given}
 use Rattle.board.specs.declared.Board.{Board}
-use Rattle.board.proofs.Marks.{none_twice_lem}
 use Rattle.intake.proofs.Imaging.{hands_no, hands_yes}
 use Rattle.intake.proofs.Dealing.{no_deck, deck_code_lem, deck_twice, deck_dealt, board_dealt}
-use borrow.Author.Rules.{rules}
 use Rattle.board.specs.Record.{laid}
 use Rattle.intake.proofs.deal.deal.Goals as goal
 

@@ -1,7 +1,6 @@
 -- What `dealt_code` leaves to be shown: past the deck's end there is no card.
 use mathlib.Core.Path.{sym}
 use lib.ListN.{get_or-eq_default}
-use borrow.Author.Rules.{rules}
 use Rattle.intake.proofs.deal.dealt_code.Goals as goal
 
 pub returns : goal.returns

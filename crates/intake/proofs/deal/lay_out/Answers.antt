@@ -1,10 +1,7 @@
 -- What `lay_out` leaves to be shown: the array is filled place by place.
 use mathlib.Core.Path.{refl}
-use Prim.Native.Nat.{◌-◌}
-use Rattle.base.proofs.Filling.{Filled, filled_none, filled_more, filled_end}
+use Rattle.base.proofs.Filling.{filled_none, filled_more, filled_end}
 use Rattle.intake.specs.Inside.{deck_code}
-use borrow.Author.Rules.{rules}
-use Rattle.board.specs.Record.{tableau_room}
 use Rattle.intake.proofs.deal.lay_out.Goals as goal
 
 pub loop-p-init : goal.loop-p-init

@@ -4,7 +4,6 @@ use Prim.Native.Nat.{◌/◌, ◌%◌}
 use native.Mathlib.Omega.{arith}
 use Rattle.board.specs.Record.{room}
 use Rattle.board.proofs.Tables.{part_code_lem, part_past}
-use borrow.Author.Rules.{rules}
 use Rattle.intake.proofs.image.code_at.Goals as goal
 
 pub bounds-counts-i : goal.bounds-counts-i

@@ -1,9 +1,7 @@
 -- What `fill` leaves to be shown: the array is filled place by place.
-use mathlib.Core.Path.{refl}
 use Prim.Native.Nat.{◌-◌}
-use Rattle.base.proofs.Filling.{Filled, filled_none, filled_more, filled_end}
+use Rattle.base.proofs.Filling.{Filled}
 use Rattle.intake.specs.Inside.{part_code}
-use borrow.Author.Rules.{rules}
 use Rattle.board.specs.Record.{tableau_room}
 use Rattle.intake.proofs.image.fill.Given as goal
 

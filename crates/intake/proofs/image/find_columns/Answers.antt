@@ -1,9 +1,6 @@
 -- What `find_columns` leaves to be shown: a walk over the image's columns.
-use Prim.Native.Nat.{◌-◌}
 use native.Mathlib.Omega.{arith}
-use Rattle.base.specs.Answer.{given}
-use Rattle.intake.proofs.Walking.{Walk, walk_start, walk_short, walk_past, walk_over, walk_end, walk_next}
-use borrow.Author.Rules.{rules}
+use Rattle.intake.proofs.Walking.{walk_start, walk_short, walk_past, walk_over, walk_end, walk_next}
 use Rattle.intake.proofs.image.find_columns.Goals as goal
 
 pub loop-i-init : goal.loop-i-init

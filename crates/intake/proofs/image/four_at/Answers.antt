@@ -1,6 +1,5 @@
 -- What `four_at` leaves to be shown: four elements in a row are the part.
 use Rattle.intake.proofs.Parts.{take_four}
-use borrow.Author.Rules.{rules}
 use Rattle.intake.proofs.image.four_at.Goals as goal
 
 pub returns : goal.returns

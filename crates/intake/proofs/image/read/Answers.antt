@@ -4,7 +4,6 @@ use Rattle.base.specs.Answer.{Answer}
 use Rattle.board.specs.declared.Board.{Board}
 use Rattle.intake.specs.Handed.{Hands}
 use Rattle.intake.proofs.Imaging.{hands_no, too_short, wrong_count_lem, no_version, wrong_version, to_the_body}
-use borrow.Author.Rules.{rules}
 use Rattle.intake.proofs.image.read.Goals as goal
 
 pub returns-then-n-lt2 : goal.returns-then-n-lt2

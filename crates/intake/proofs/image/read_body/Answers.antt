@@ -9,7 +9,6 @@ use Rattle.board.specs.declared.Board.{Board}
 use Rattle.board.proofs.Tables.{good_piles}
 use Rattle.intake.proofs.Parts.{four_long}
 use Rattle.intake.proofs.Imaging.{hands_no, hands_yes, board_of_parts, body_short, body_piles, body_columns, columns_refused, columns_bad, columns_good}
-use borrow.Author.Rules.{rules}
 use Rattle.board.specs.Record.{laid}
 use Rattle.intake.proofs.image.read_body.Goals as goal
 

@@ -7,7 +7,6 @@ use Rattle.intake.specs.Deal.{deal_asked}
 use Rattle.intake.specs.Handed.{Hands}
 use Rattle.intake.proofs.Imaging.{hands_no}
 use Rattle.intake.proofs.Numbers.{number_zero, number_over, number_is}
-use borrow.Author.Rules.{rules}
 use Rattle.intake.proofs.number.hand.Goals as goal
 
 pub returns-then-number-eq0 : goal.returns-then-number-eq0

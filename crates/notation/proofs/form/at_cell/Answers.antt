@@ -6,7 +6,6 @@ use Rattle.notation.specs.Form.{step_from}
 use Rattle.notation.specs.declared.Jot.TheVariants.{FromCell}
 use Rattle.notation.specs.declared.Due.TheVariants.{Whole}
 use Rattle.notation.specs.declared.Step.TheVariants.{On}
-use borrow.Author.Rules.{rules}
 use Rattle.notation.proofs.form.at_cell.Goals as goal
 
 pub number_said-destination-requires : goal.number_said-destination-requires

@@ -6,7 +6,6 @@ use Rattle.notation.specs.Form.{step_from}
 use Rattle.notation.specs.declared.Jot.TheVariants.{ToCell}
 use Rattle.notation.specs.declared.Due.TheVariants.{Pair, Whole}
 use Rattle.notation.specs.declared.Step.TheVariants.{On}
-use borrow.Author.Rules.{rules}
 use Rattle.notation.proofs.form.at_column.Goals as goal
 
 pub number_said-requires : goal.number_said-requires

@@ -5,7 +5,6 @@ use Rattle.notation.specs.Form.{step_from}
 use Rattle.notation.specs.declared.Jot.TheVariants.{Counted}
 use Rattle.notation.specs.declared.Due.TheVariants.{Whole}
 use Rattle.notation.specs.declared.Step.TheVariants.{On}
-use borrow.Author.Rules.{rules}
 use Rattle.notation.proofs.form.at_digit.Goals as goal
 
 pub digit_said-count-requires : goal.digit_said-count-requires

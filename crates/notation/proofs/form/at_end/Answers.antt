@@ -4,7 +4,6 @@ use native.Mathlib.Omega.{arith}
 use Rattle.notation.specs.Form.{ending}
 use Rattle.notation.specs.Inner.{formed_after, begun}
 use Rattle.notation.specs.declared.Due.{Due}
-use borrow.Author.Rules.{rules}
 use Rattle.notation.proofs.form.at_end.Goals as goal
 
 pub overflow_add-all : goal.overflow_add-all

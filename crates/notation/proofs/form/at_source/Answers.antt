@@ -4,7 +4,6 @@ use Prim.Native.Nat.{ℕ}
 use Rattle.notation.specs.Form.{step_from}
 use Rattle.notation.specs.declared.Due.TheVariants.{OfColumn, OfCell}
 use Rattle.notation.specs.declared.Step.TheVariants.{On}
-use borrow.Author.Rules.{rules}
 use Rattle.notation.proofs.form.at_source.Goals as goal
 
 pub number_said-requires : goal.number_said-requires

@@ -1,10 +1,7 @@
 -- What `check` leaves to be shown: each sign leads on, ends a move, or is wrong.
-use Rattle.notation.proofs.Checking.{Checks, no_text, checks_start, checks_on, checks_ends, checks_stop, checks_end, checks_same}
+use Rattle.notation.proofs.Checking.{no_text, checks_start, checks_on, checks_ends, checks_stop, checks_end, checks_same}
 use mathlib.Core.Path.{sym, ◌∙◌}
-use Prim.Native.Nat.{◌-◌}
 use native.Mathlib.Omega.{arith}
-use borrow.Author.Rules.{rules}
-use lib.ListN.{length}
 use Rattle.notation.proofs.form.check.Goals as goal
 use Rattle.notation.proofs.form.check.Goals.{in-On, in-Ends}
 
@@ -35,8 +32,8 @@ loop-at-preserved c =
     let more = c.loop-at-test.true in
     let step = sym c.step_from.ensures in
     elim c.match-step_from.branch [
-      in-On w ↦ checks_same w.due-is w.moves-is (checks_on turn more (step ∙ w.in-On.is))
-    | in-Ends w ↦ checks_same w.due-is w.moves-is (checks_ends turn more (step ∙ w.in-Ends.is))
+      | in-On w ↦ checks_same w.due-is w.moves-is (checks_on turn more (step ∙ w.in-On.is))
+      | in-Ends w ↦ checks_same w.due-is w.moves-is (checks_ends turn more (step ∙ w.in-Ends.is))
     ]
 
 pub at_end-requires : goal.at_end-requires

@@ -1,10 +1,6 @@
 -- What `check` leaves to be shown: each sign leads on, ends a move, or is wrong.
-use mathlib.Core.Logic.{⊎_elim}
-use Rattle.notation.proofs.Checking.{Checks, no_text, checks_start, checks_on, checks_ends, checks_stop, checks_end, checks_same}
-use mathlib.Core.Path.{sym, ◌∙◌}
+use Rattle.notation.proofs.Checking.{Checks}
 use Prim.Native.Nat.{◌-◌}
-use native.Mathlib.Omega.{arith}
-use borrow.Author.Rules.{rules}
 use lib.ListN.{length}
 use Rattle.notation.proofs.form.check.Given as goal
 

@@ -4,7 +4,6 @@ use native.Mathlib.Omega.{arith}
 use borrow.Author.Tests.{le-leb, lt-leb}
 use Rattle.notation.specs.Form.{digit_said}
 use Rattle.notation.proofs.Signs.{digit_range}
-use borrow.Author.Rules.{rules}
 use Rattle.notation.proofs.form.digit_said.Goals as goal
 
 pub overflow_sub-low : goal.overflow_sub-low

@@ -1,6 +1,5 @@
 -- What `is_digit` leaves to be shown: one range, or else the other.
 use mathlib.Core.Path.{sym, ◌∙◌}
-use borrow.Author.Rules.{rules}
 use Rattle.notation.proofs.form.is_digit.Goals as goal
 
 pub returns-then-is_within : goal.returns-then-is_within

@@ -2,7 +2,6 @@
 use mathlib.Core.Path.{sym, ap, ◌∙◌}
 use Rattle.notation.specs.Form.{step_from}
 use Rattle.notation.specs.declared.Due.{Due}
-use borrow.Author.Rules.{rules}
 use Rattle.notation.proofs.form.step_from.Goals as goal
 
 pub returns-in-Source : goal.returns-in-Source

@@ -1,7 +1,6 @@
 -- What `digit_sign` leaves to be shown: a figure below ten, a letter from there.
 use borrow.Author.Tests.{lt-ltb, le-ltb}
 use Rattle.notation.specs.Jot.{digit_sign}
-use borrow.Author.Rules.{rules}
 use Rattle.notation.proofs.put.digit_sign.Goals as goal
 
 pub returns-then-n-lt10 : goal.returns-then-n-lt10

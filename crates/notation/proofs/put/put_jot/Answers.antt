@@ -4,7 +4,6 @@ use native.Mathlib.Omega.{arith}
 use Rattle.base.proofs.Putting.{puts_same}
 use Rattle.notation.specs.Jot.{jot_text, WellMade}
 use Rattle.notation.proofs.Signing.{pair_of, pair_long, four_of, four_long}
-use borrow.Author.Rules.{rules}
 use Rattle.notation.proofs.put.put_jot.Goals as goal
 
 pub column_sign-requires : goal.column_sign-requires

@@ -1,7 +1,6 @@
 -- What `home_at` leaves to be shown: the top of a foundation has its count as value.
 use lib.ListN.{get_or}
 use Rattle.play.proofs.Tops.{no_pile_top, a_pile_top}
-use borrow.Author.Rules.{rules}
 use Rattle.play.proofs.rule.home_at.Goals as goal
 
 pub returns-then-value-eq0 : goal.returns-then-value-eq0

@@ -13,7 +13,6 @@ use Rattle.moves.specs.Play.{there}
 use Rattle.moves.specs.Inner.{landing}
 use Rattle.moves.proofs.Records.{said_from, said_to, said_value}
 use Rattle.play.proofs.Single.{one_empty, one_value, one_other, one_lands}
-use borrow.Author.Rules.{rules}
 use Rattle.play.proofs.rule.one_ruled.Goals as goal
 
 pub top_there-requires : goal.top_there-requires

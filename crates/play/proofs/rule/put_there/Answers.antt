@@ -2,7 +2,6 @@
 use Rattle.play.proofs.Tops.{in_column, in_cell}
 use Rattle.play.proofs.Landing.{lands_column, lands_cell, lands_home}
 use Rattle.board.specs.Record.{laid}
-use borrow.Author.Rules.{rules}
 use Rattle.play.proofs.rule.put_there.Goals as goal
 
 pub fit_at-requires : goal.fit_at-requires

@@ -6,7 +6,6 @@ use Rattle.moves.specs.Move.{sayable}
 use Rattle.moves.specs.Causes.{ruling}
 use Rattle.moves.specs.declared.Move.{Move}
 use Rattle.play.proofs.Single.{of_one}
-use borrow.Author.Rules.{rules}
 use Rattle.play.proofs.rule.ruled_at.Goals as goal
 
 pub run_ruled-requires : goal.run_ruled-requires

@@ -9,7 +9,6 @@ use Rattle.card.proofs.Codes.{code_is_card}
 use Rattle.moves.proofs.Records.{said_from, said_to, said_count, said_value}
 use Rattle.play.proofs.Running.{own_column_lem, none_lie, too_many_lem, other_card_lem, over_limit_lem, no_run_lem, run_lands}
 use Rattle.board.specs.Record.{laid}
-use borrow.Author.Rules.{rules}
 use Rattle.play.proofs.rule.run_ruled.Goals as goal
 
 pub returns-then-source-destination : goal.returns-then-source-destination

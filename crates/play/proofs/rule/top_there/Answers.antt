@@ -1,6 +1,5 @@
 -- What `top_there` leaves to be shown: the last card of a column, a cell, a foundation.
 use Rattle.play.proofs.Tops.{top_column, top_cell, top_home, in_column, in_cell, in_home}
-use borrow.Author.Rules.{rules}
 use Rattle.play.proofs.rule.top_there.Goals as goal
 
 pub top_at-requires : goal.top_at-requires

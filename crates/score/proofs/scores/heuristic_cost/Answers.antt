@@ -5,7 +5,6 @@ use native.Mathlib.Omega.{arith}
 use Rattle.score.specs.Scores.{heuristic}
 use Rattle.score.proofs.Keys.{heuristic_adds_most, heuristic-takes_most}
 use Rattle.score.proofs.Signs.{passed_on, heuristic_fits}
-use borrow.Author.Rules.{rules}
 use Rattle.score.proofs.scores.heuristic_cost.Goals as goal
 
 pub signed-requires : goal.signed-requires

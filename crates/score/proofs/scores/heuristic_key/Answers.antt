@@ -4,7 +4,6 @@ use Prim.Native.Nat.{ℕ, ◌+◌, ◌-◌}
 use native.Mathlib.Omega.{arith}
 use Rattle.score.specs.Scores.{heuristic_key, heuristic_bias}
 use Rattle.score.proofs.Keys.{heuristic_adds_most, heuristic-takes_most}
-use borrow.Author.Rules.{rules}
 use Rattle.score.proofs.scores.heuristic_key.Goals as goal
 
 pub overflow_add-raised : goal.overflow_add-raised

@@ -4,7 +4,6 @@ use Prim.Native.Nat.{ℕ, ◌+◌, ◌-◌}
 use native.Mathlib.Omega.{arith}
 use Rattle.score.specs.Scores.{progress_key, progress_bias}
 use Rattle.score.proofs.Keys.{progress_adds_most, progress-takes_most}
-use borrow.Author.Rules.{rules}
 use Rattle.score.proofs.scores.progress_key.Goals as goal
 
 pub overflow_add-raised : goal.overflow_add-raised

@@ -5,7 +5,6 @@ use native.Mathlib.Omega.{arith}
 use Rattle.score.specs.Scores.{progress}
 use Rattle.score.proofs.Keys.{progress_adds_most, progress-takes_most}
 use Rattle.score.proofs.Signs.{passed_on, progress_fits}
-use borrow.Author.Rules.{rules}
 use Rattle.score.proofs.scores.progress_score.Goals as goal
 
 pub signed-requires : goal.signed-requires

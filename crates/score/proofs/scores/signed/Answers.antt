@@ -1,7 +1,6 @@
 -- What `signed` leaves to be shown: the difference in the two cases.
 use native.Mathlib.Omega.{arith}
 use Rattle.score.proofs.Signs.{signed_above, below_fits, signed_below}
-use borrow.Author.Rules.{rules}
 use Rattle.score.proofs.scores.signed.Goals as goal
 
 pub returns-then-takes-adds : goal.returns-then-takes-adds

@@ -3,7 +3,6 @@ use lib.ListN.{length-append}
 use native.Mathlib.Omega.{arith}
 use Rattle.score.specs.Token.{decimal}
 use Rattle.base.proofs.Putting.{puts_room, puts_more}
-use borrow.Author.Rules.{rules}
 use Rattle.score.proofs.token.put.Goals as goal
 
 pub put_bytes-after-requires : goal.put_bytes-after-requires

@@ -6,7 +6,6 @@ use lib.ListN.{length}
 use native.Mathlib.Omega.{arith}
 use Rattle.score.proofs.Digits.{decimal_one, decimal_two, decimal-three}
 use Rattle.base.proofs.Putting.{puts_same}
-use borrow.Author.Rules.{rules}
 use Rattle.score.proofs.token.put_number.Goals as goal
 
 pub put_bytes-requires : goal.put_bytes-requires

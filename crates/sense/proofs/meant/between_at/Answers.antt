@@ -1,12 +1,9 @@
 -- What `between_at` leaves to be shown: an empty column takes the most, an occupied one what fits.
-use mathlib.Core.Path.{◌∙◌}
 use native.Mathlib.Omega.{arith}
 use Rattle.board.specs.Record.{shown, laid}
-use Rattle.moves.specs.declared.Place.TheVariants.{Column as column}
 use Rattle.play.proofs.Playing.{count-there}
 use Rattle.sense.proofs.Meaning.{most_some}
 use Rattle.sense.proofs.Finding.{most_there, fitting-there, vacant_yes, vacant_no, means_most, means_fit, fits_none}
-use borrow.Author.Rules.{rules}
 use Rattle.sense.proofs.meant.between_at.Goals as goal
 
 pub run_move-requires : goal.run_move-requires

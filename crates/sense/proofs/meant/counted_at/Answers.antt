@@ -2,7 +2,6 @@
 use native.Mathlib.Omega.{arith}
 use Rattle.board.specs.Record.{shown, laid}
 use Rattle.sense.proofs.Finding.{most_there, vacant_yes, vacant_no, count_occupied, count_none, count-over, count_means}
-use borrow.Author.Rules.{rules}
 use Rattle.sense.proofs.meant.counted_at.Goals as goal
 
 pub returns-then-counts-j-ne0 : goal.returns-then-counts-j-ne0

@@ -1,7 +1,6 @@
 -- What `deepest` leaves to be shown: the place of the card is within the column.
 use native.Mathlib.Omega.{arith}
 use Rattle.sense.proofs.Finding.{deepest_is, deepest_card}
-use borrow.Author.Rules.{rules}
 use Rattle.sense.proofs.meant.deepest.Goals as goal
 
 pub overflow_mul-first : goal.overflow_mul-first

@@ -1,9 +1,7 @@
 -- What `fitting_at` leaves to be shown: from the longest run down, the first that fits.
 use mathlib.Core.Path.{sym, ◌∙◌}
 use native.Mathlib.Omega.{arith}
-use Rattle.board.specs.Record.{laid}
-use Rattle.sense.proofs.Finding.{fit_is, Fits, fits_start, fits_stop, fits_turn, fits_end}
-use borrow.Author.Rules.{rules}
+use Rattle.sense.proofs.Finding.{fit_is, fits_start, fits_stop, fits_turn, fits_end}
 use Rattle.sense.proofs.meant.fitting_at.Goals as goal
 
 pub run_at-n-requires : goal.run_at-n-requires

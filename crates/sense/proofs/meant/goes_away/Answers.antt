@@ -1,7 +1,6 @@
 -- What `goes_away` leaves to be shown: kind by kind.
 use mathlib.Core.Path.{sym, ap}
 use Rattle.sense.specs.Meant.{leaves}
-use borrow.Author.Rules.{rules}
 use Rattle.sense.proofs.meant.goes_away.Goals as goal
 
 pub returns-in-Between : goal.returns-in-Between

@@ -1,9 +1,7 @@
 -- What `meant_at` leaves to be shown: a column to itself, an empty source, and then the move itself.
 use mathlib.Core.Path.{sym, ◌∙◌}
-use borrow.Author.Tests.{not-true, not-false}
 use Rattle.board.specs.Record.{shown, laid}
 use Rattle.sense.proofs.Finding.{meant_own, meant_bare, meant-there}
-use borrow.Author.Rules.{rules}
 use Rattle.sense.proofs.meant.meant_at.Goals as goal
 
 pub returns-then-not-goes_away : goal.returns-then-not-goes_away

@@ -1,5 +1,4 @@
 -- What `most_into` leaves to be shown: the lesser of the two.
-use mathlib.Core.Path.{◌∙◌}
 use native.Mathlib.Omega.{arith}
 use Rattle.sense.proofs.Finding.{most_is}
 use Rattle.sense.proofs.meant.most_into.Goals as goal

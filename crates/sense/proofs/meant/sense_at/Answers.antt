@@ -4,7 +4,6 @@ use Rattle.board.specs.Record.{shown, laid}
 use Rattle.notation.specs.Jot.{WellMade}
 use Rattle.sense.specs.Meant.{sense}
 use Rattle.sense.proofs.Finding.{some_lies, top_of_lem, means_to_cell, means_from_cell, means_to-home, means_cell_home}
-use borrow.Author.Rules.{rules}
 use Rattle.sense.proofs.meant.sense_at.Goals as goal
 
 pub between_at-requires : goal.between_at-requires

@@ -3,7 +3,6 @@ use mathlib.Core.Path.{ap, subst}
 use Rattle.play.proofs.Tops.{top_column, top_cell}
 use Rattle.notation.specs.Jot.{WellMade}
 use Rattle.sense.specs.Meant.{origin}
-use borrow.Author.Rules.{rules}
 use Rattle.sense.proofs.meant.top_there.Goals as goal
 
 pub top_at-requires : goal.top_at-requires

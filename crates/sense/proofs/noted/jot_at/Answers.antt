@@ -3,7 +3,6 @@ use mathlib.Core.Path.{sym, ap, ◌∙◌}
 use Rattle.board.specs.Record.{shown, laid}
 use Rattle.sense.specs.Meant.{jot_of}
 use Rattle.sense.proofs.Noting.{run_places}
-use borrow.Author.Rules.{rules}
 use Rattle.sense.proofs.noted.jot_at.Goals as goal
 
 pub run_jot-requires : goal.run_jot-requires

@@ -1,6 +1,5 @@
 -- What `run_jot` leaves to be shown: onto other cards, fewer than the most, the most.
 use Rattle.sense.proofs.Noting.{onto_jot, few_jot, most_jot}
-use borrow.Author.Rules.{rules}
 use Rattle.sense.proofs.noted.run_jot.Goals as goal
 
 pub returns-then-counts-destination-ne0 : goal.returns-then-counts-destination-ne0

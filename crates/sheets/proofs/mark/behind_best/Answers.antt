@@ -1,6 +1,5 @@
 -- What `behind_best` leaves to be shown: by the side.
 use Rattle.sheets.proofs.Deciding.{behind_short, behind_long}
-use borrow.Author.Rules.{rules}
 use Rattle.sheets.proofs.mark.behind_best.Goals as goal
 
 pub returns-in-Shortest : goal.returns-in-Shortest

@@ -1,6 +1,5 @@
 -- What `deal_of` leaves to be shown: by the side.
 use Rattle.sheets.proofs.Deciding.{deal_short, deal_long}
-use borrow.Author.Rules.{rules}
 use Rattle.sheets.proofs.mark.deal_of.Goals as goal
 
 pub returns-in-Shortest : goal.returns-in-Shortest

@@ -2,7 +2,6 @@
 use native.Mathlib.Omega.{arith}
 use Rattle.sheets.proofs.Totals.{key_absent, key_here, back_most}
 use Prim.Native.Nat.{◌≤◌}
-use borrow.Author.Rules.{rules}
 use Rattle.sheets.proofs.mark.key_of.Goals as goal
 
 pub returns-then-deal-eq0 : goal.returns-then-deal-eq0

@@ -1,6 +1,5 @@
 -- What `list_of` leaves to be shown: by the side.
 use Rattle.sheets.proofs.Deciding.{list_short, list_long}
-use borrow.Author.Rules.{rules}
 use Rattle.sheets.proofs.mark.list_of.Goals as goal
 
 pub returns-in-Shortest : goal.returns-in-Shortest

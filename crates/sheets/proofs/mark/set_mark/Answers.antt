@@ -1,6 +1,5 @@
 -- What `set_mark` leaves to be shown: by the side.
 use Rattle.sheets.proofs.Totals.{set_short, set_long}
-use borrow.Author.Rules.{rules}
 use Rattle.sheets.proofs.mark.set_mark.Goals as goal
 
 pub returns-in-Shortest : goal.returns-in-Shortest
