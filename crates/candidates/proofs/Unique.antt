@@ -1,5 +1,5 @@
--- Every promise of this crate allows one result only: `child_to` (`child-once`); of what `tried` and `ordered` list, generate's `find-once` and moves'
--- `adds-once`.
+-- Every promise of this crate allows one result only: `child_to` (`child_once`); of what `tried` and `ordered` list, generate's `find_once` and moves'
+-- `adds_once`.
 use mathlib.Core.Path.{◌≡◌}
 use Prim.Native.Nat.{ℕ}
 use Rattle.base.proofs.Unique.{once}

@@ -1,4 +1,4 @@
--- The greatest over places: with one term changed, and under other numbers. (Of a sum: `sum-changed` of base/proofs/Sums.antt,
+-- The greatest over places: with one term changed, and under other numbers. (Of a sum: `sum_changed` of base/proofs/Sums.antt,
 -- `sum-renumbered` of board/proofs/Renumbering.antt.)
 use mathlib.Core.Path.{◌≡◌, sym, ap}
 use Prim.Native.Nat.{ℕ, zero, suc, ◌<◌, ◌≤◌, max}

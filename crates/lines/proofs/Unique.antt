@@ -1,4 +1,4 @@
--- Every promise of this crate allows one result and one content of the list (`write_down` and `write_line`: generate's `adds-once`).
+-- Every promise of this crate allows one result and one content of the list (`write_down` and `write_line`: generate's `adds_once`).
 use mathlib.Core.Path.{◌≡◌, ap₂}
 use mathlib.Core.List.{List}
 use Prim.Native.Nat.{ℕ}

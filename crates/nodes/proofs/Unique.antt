@@ -1,4 +1,4 @@
--- Every promise of this crate allows one result, and one content of the lent words (`move_in` tells a move: moves' `decode-once`; the
+-- Every promise of this crate allows one result, and one content of the lent words (`move_in` tells a move: moves' `decode_once`; the
 -- others promise `r ≡ d`, which is `once`).
 use mathlib.Core.Path.{◌≡◌}
 use mathlib.Core.List.{List}

@@ -1,5 +1,5 @@
 -- On an occupied column at most one length of a run fits: values fall by one in a run, so two top cards tell which.
--- Of the rule of the game only `follows-falls` is used: the card that may lie on another is one less in value.
+-- Of the rule of the game only `follows_falls` is used: the card that may lie on another is one less in value.
 use mathlib.Core.Path.{◌≡◌, refl, sym, ap, ◌∙◌}
 use mathlib.Core.Bool.{true}
 use mathlib.Core.List.{List, [], ◌∷◌}

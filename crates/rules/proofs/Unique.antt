@@ -1,4 +1,4 @@
--- Every promise of this crate allows one result only (the counts are told as those of `questions` are: `count-once` there).
+-- Every promise of this crate allows one result only (the counts are told as those of `questions` are: `count_once` there).
 use mathlib.Core.Path.{◌≡◌, refl, ap}
 use mathlib.Core.Bool.{Bool, true, false}
 use Rattle.base.specs.Answer.{Answer, given, refused}

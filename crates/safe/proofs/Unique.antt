@@ -1,4 +1,4 @@
--- Every promise of this crate allows one result only (`is_safe` tells a yes or no: rules' `yes-once`; the inner forms promise `r ≡ d`).
+-- Every promise of this crate allows one result only (`is_safe` tells a yes or no: rules' `yes_once`; the inner forms promise `r ≡ d`).
 use mathlib.Core.Path.{◌≡◌, refl, sym, ap, ap₂, ◌∙◌}
 use Prim.Native.Nat.{ℕ}
 use Rattle.base.specs.Answer.{Answer, given, refused}

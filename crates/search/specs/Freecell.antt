@@ -12,7 +12,7 @@ use Rattle.search.specs.Game.{Game}
 use Rattle.search.specs.Solve.{Answer, solve}
 
 -- Two boards count as the same if their signatures are equal. The scores are raised to natural numbers: on well-formed boards nodes
--- are ordered by them as by SCOPE.md's signed scores (Signed.antt; `before-signed`, `better-signed` of proofs/Signed.antt).
+-- are ordered by them as by SCOPE.md's signed scores (Signed.antt; `before_signed_lem`, `better-signed` of proofs/Signed.antt).
 abbrev pub freecell : Game
 freecell =
     record {
