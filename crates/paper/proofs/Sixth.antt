@@ -1,6 +1,6 @@
 -- The first move that cannot be written, by the first bytes of the records of a list that can be played.
-use mathlib.Core.Path.{◌≡◌, refl, sym, ap, ◌∙◌, subst}
-use mathlib.Core.Bool.{Bool, true, false}
+use mathlib.Core.Path.{◌≡◌, refl, ap, subst}
+use mathlib.Core.Bool.{true}
 use mathlib.Core.List.{List, [], ◌∷◌}
 use Prim.Native.Nat.{ℕ, zero, suc, ◌+◌, ◌*◌, ◌/◌, ◌%◌, ◌<◌, ◌≤◌}
 use native.Mathlib.Omega.{arith}
@@ -13,10 +13,9 @@ use Rattle.base.proofs.Words.{first, second, get_or-listed, length-listed}
 use Rattle.card.specs.Card.{is_card}
 use Rattle.board.specs.Verdict.{fine}
 use Rattle.board.specs.declared.Board.{Board}
-use Rattle.moves.specs.Record.{source_room, possible, move_said}
+use Rattle.moves.specs.Record.{source_room, possible}
 use Rattle.replay.specs.Step.{stepped}
 use Rattle.replay.specs.Line.{go_on, line_from, records_in}
-use Rattle.sense.specs.Meant.{writable}
 use Rattle.writing.specs.Lines.{writable_first}
 use Rattle.writing.specs.Asked.{moves_in}
 use Rattle.writing.proofs.Writing.{steps}

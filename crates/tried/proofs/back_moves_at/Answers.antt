@@ -6,7 +6,6 @@ use Rattle.candidates.specs.Candidates.{worthwhile}
 use Rattle.candidates.proofs.Trying.{all_found}
 use Rattle.candidates.proofs.Listing.{holds-written}
 use Rattle.candidates.proofs.Adding.{back_room, pick_room, picked}
-use borrow.Author.Rules.{rules}
 use Rattle.board.proofs.Fair.{shows_fair}
 use Rattle.tried.proofs.back_moves_at.Goals as goal
 

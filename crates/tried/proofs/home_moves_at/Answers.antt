@@ -3,7 +3,6 @@ use Rattle.board.specs.Record.{shown, laid}
 use Rattle.generate.specs.Found.{found}
 use Rattle.generate.specs.declared.Way.TheVariants.{ColumnToHome, CellToHome}
 use Rattle.candidates.proofs.Adding.{first-room, next_room, adds_both, home-room, adds_home}
-use borrow.Author.Rules.{rules}
 use Rattle.tried.proofs.home_moves_at.Goals as goal
 
 pub find_at-made-requires : goal.find_at-made-requires

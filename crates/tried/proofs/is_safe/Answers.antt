@@ -1,7 +1,6 @@
 -- What `is_safe` leaves to be shown: the move's card is one.
 use Rattle.candidates.proofs.Worth.{good_value, good_code, safe_here}
 use Rattle.board.specs.Record.{laid}
-use borrow.Author.Rules.{rules}
 use Rattle.tried.proofs.is_safe.Goals as goal
 
 pub code_of-code-requires : goal.code_of-code-requires

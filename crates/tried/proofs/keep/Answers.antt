@@ -4,7 +4,6 @@ use Rattle.board.specs.Record.{shown, laid}
 use Rattle.moves.specs.Record.{move_of}
 use Rattle.candidates.specs.Inner.{meets}
 use Rattle.candidates.proofs.Picking.{told_move, never_impossible, told_ready, kept-room, kept, passed}
-use borrow.Author.Rules.{rules}
 use Rattle.tried.proofs.keep.Goals as goal
 
 pub returns-in_default : goal.returns-in_default

@@ -2,7 +2,6 @@
 use Rattle.board.specs.Record.{shown, laid}
 use Rattle.moves.proofs.Writing.{adds_none}
 use Rattle.candidates.proofs.Worth.{nothing_late, late_room, adds_late}
-use borrow.Author.Rules.{rules}
 use Rattle.tried.proofs.late_moves_at.Goals as goal
 
 pub returns-then-before-lt-ENDGAME_UNSAFE_FOUNDATION_THRESHOLD : goal.returns-then-before-lt-ENDGAME_UNSAFE_FOUNDATION_THRESHOLD

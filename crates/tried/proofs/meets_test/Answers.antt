@@ -1,7 +1,6 @@
 -- What `meets_test` leaves to be shown: what each test asks.
 use Rattle.board.specs.Record.{shown, laid}
 use Rattle.candidates.proofs.Worth.{meets-safe, meets_unsafe, meets_worth}
-use borrow.Author.Rules.{rules}
 use Rattle.tried.proofs.meets_test.Goals as goal
 
 pub returns-in-Safe : goal.returns-in-Safe

@@ -4,7 +4,6 @@ use Rattle.board.specs.Record.{shown, laid}
 use Rattle.generate.specs.Found.{found}
 use Rattle.generate.specs.declared.Way.TheVariants.{ColumnToColumn, CellToColumn, ColumnToCell}
 use Rattle.candidates.proofs.Adding.{first-room, next_room, adds_both}
-use borrow.Author.Rules.{rules}
 use Rattle.tried.proofs.other_moves_at.Goals as goal
 
 pub find_at-runs-requires : goal.find_at-runs-requires

@@ -9,7 +9,6 @@ use Rattle.candidates.specs.Candidates.{worthwhile, late_moves}
 use Rattle.candidates.proofs.Trying.{all-home, most_home}
 use Rattle.candidates.proofs.Listing.{holds-written, moves_written}
 use Rattle.candidates.proofs.Adding.{first-room, next_room, adds_both, others, rest, tried-room, adds_tried, pick_room, picked}
-use borrow.Author.Rules.{rules}
 use Rattle.board.proofs.Fair.{shows_fair}
 use Rattle.tried.proofs.tried_at.Goals as goal
 

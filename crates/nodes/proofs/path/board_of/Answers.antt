@@ -1,7 +1,6 @@
 -- What `board_of` leaves to be shown: there is room for the path, and its steps can be made.
 use Rattle.nodes.proofs.Reaching.{node_steps, node_costs, node_few}
 use Rattle.nodes.proofs.Walking.{path_leads, node_board}
-use borrow.Author.Rules.{rules}
 use Rattle.nodes.proofs.path.board_of.Goals as goal
 
 pub climb-deep-requires : goal.climb-deep-requires

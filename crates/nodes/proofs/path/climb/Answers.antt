@@ -1,6 +1,6 @@
 -- What `climb` leaves to be shown: the steps passed, then those that are left.
 use native.Mathlib.Omega.{arith}
-use Rattle.nodes.proofs.Walking.{Climbing, climb_start, climb_there, climb_room, climb_less, climb_turn, climb_end}
+use Rattle.nodes.proofs.Walking.{climb_start, climb_there, climb_room, climb_less, climb_turn, climb_end}
 use borrow.Author.Rules.{rules}
 use Rattle.nodes.proofs.path.climb.Goals as goal
 

@@ -1,8 +1,7 @@
 -- What `play_down` leaves to be shown: the steps from a place of the path on were made, and their moves counted.
 use native.Mathlib.Omega.{arith}
-use Rattle.nodes.proofs.Walking.{descend_there, descend_makes, descend_end, Replaying, replay_start, replay_costs, replay_turn}
+use Rattle.nodes.proofs.Walking.{descend_there, descend_makes, descend_end, replay_start, replay_costs, replay_turn}
 use borrow.Author.Rules.{rules}
-use Rattle.board.specs.Record.{laid}
 use Rattle.nodes.proofs.path.play_down.Goals as goal
 
 pub loop-left-init : goal.loop-left-init

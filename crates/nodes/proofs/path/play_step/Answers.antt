@@ -1,7 +1,6 @@
 -- What `play_step` leaves to be shown: the step's move is told, and the child is made of it, with no chain if one move was spent.
 use native.Mathlib.Omega.{arith}
 use Rattle.nodes.proofs.Walking.{step_never, step_goes, step_plays, step_alone}
-use borrow.Author.Rules.{rules}
 use Rattle.nodes.proofs.path.play_step.Goals as goal
 
 pub returns-in_default : goal.returns-in_default

@@ -1,6 +1,5 @@
 -- What `add_node` leaves to be shown.
 use Rattle.nodes.proofs.Digits.{added_by}
-use borrow.Author.Rules.{rules}
 use Rattle.nodes.proofs.words.add_node.Goals as goal
 
 pub returns : goal.returns

@@ -1,7 +1,6 @@
 -- What `cost_in` leaves to be shown: the last digit of the step.
 use mathlib.Core.Path.{refl}
 use Rattle.nodes.specs.Step.{cost_in}
-use borrow.Author.Rules.{rules}
 use Rattle.nodes.proofs.words.cost_in.Goals as goal
 
 pub returns : goal.returns

@@ -1,7 +1,6 @@
 -- What `cost_of` leaves to be shown: the cost of the node's step.
 use mathlib.Core.Path.{ap, ◌∙◌}
 use Rattle.nodes.specs.Step.{cost_in, cost_at}
-use borrow.Author.Rules.{rules}
 use Rattle.nodes.proofs.words.cost_of.Goals as goal
 
 pub returns : goal.returns

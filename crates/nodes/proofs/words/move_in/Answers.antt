@@ -1,7 +1,6 @@
 -- What `move_in` leaves to be shown.
 use mathlib.Core.Path.{ap, ◌∙◌}
 use Rattle.moves.specs.Record.{move_asked}
-use borrow.Author.Rules.{rules}
 use Rattle.nodes.proofs.words.move_in.Goals as goal
 
 pub returns : goal.returns

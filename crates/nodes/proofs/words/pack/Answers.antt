@@ -1,7 +1,6 @@
 -- What `pack` leaves to be shown.
 use mathlib.Core.Path.{refl}
 use Rattle.nodes.specs.Step.{step_of}
-use borrow.Author.Rules.{rules}
 use Rattle.nodes.proofs.words.pack.Goals as goal
 
 pub returns : goal.returns

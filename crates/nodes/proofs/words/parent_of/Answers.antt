@@ -1,6 +1,5 @@
 -- What `parent_of` leaves to be shown.
 use Rattle.nodes.specs.Step.{parent_at}
-use borrow.Author.Rules.{rules}
 use Rattle.nodes.proofs.words.parent_of.Goals as goal
 
 pub returns : goal.returns

@@ -1,7 +1,6 @@
 -- What `put` leaves to be shown: the words are there.
 use native.Mathlib.Omega.{arith}
 use lib.ListN.{length-set}
-use borrow.Author.Rules.{rules}
 use Rattle.nodes.proofs.words.put.Goals as goal
 
 pub bounds-nodes-at-2 : goal.bounds-nodes-at-2

@@ -1,7 +1,6 @@
 -- What `record_in` leaves to be shown.
 use mathlib.Core.Path.{refl}
 use Rattle.nodes.specs.Step.{record_in}
-use borrow.Author.Rules.{rules}
 use Rattle.nodes.proofs.words.record_in.Goals as goal
 
 pub returns : goal.returns

@@ -1,6 +1,5 @@
 -- What `slot_of` leaves to be shown.
 use Rattle.nodes.specs.Step.{slot_at}
-use borrow.Author.Rules.{rules}
 use Rattle.nodes.proofs.words.slot_of.Goals as goal
 
 pub returns : goal.returns

@@ -1,6 +1,5 @@
 -- What `step_word` leaves to be shown: the numbers are small digits.
 use Rattle.nodes.proofs.Digits.{small_numbers, packed_step}
-use borrow.Author.Rules.{rules}
 use Rattle.nodes.proofs.words.step_word.Goals as goal
 
 pub pack-requires : goal.pack-requires
