@@ -5,7 +5,7 @@ use questions::{CountAnswer, Top, TopAnswer, WonAnswer};
 use std::io;
 
 // What is asked about each place of a row: a column's top, what a cell shows, how many of a suit are home.
-#[derive(Drop)]
+#[derive(Clone, Copy)]
 enum Row {
     Columns,
     Cells,

@@ -34,7 +34,7 @@ fn yes(answer: YesNo) -> usize {
 }
 
 // What is asked about each column.
-#[derive(Drop)]
+#[derive(Clone, Copy)]
 enum Row {
     Runs,
     Limits,

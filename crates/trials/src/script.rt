@@ -3,7 +3,7 @@ use crate::kinds;
 use std::io;
 
 // Where the next byte goes, and how many bytes there are.
-#[derive(Drop)]
+#[derive(Clone, Copy)]
 struct Pen {
     at: usize,
     n: usize,
