@@ -1,10 +1,9 @@
 -- The index stays within the array, which keeps its length.
 use Rattle.std.proofs.Common.{length, ◌-◌, ◌≤◌, ◌≡◌}
-use Rattle.board.specs.Record.{tableau_room}
 use Rattle.trials.proofs.records.tableau.Given as goal
 
 abbrev pub invariant-loop-p : goal.invariant-loop-p
-invariant-loop-p l = (l.p ≤ tableau_room) × (length l.codes ≡ tableau_room)
+invariant-loop-p l = (l.p ≤ 416) × (length l.codes ≡ 416)
 
 abbrev pub decreases-loop-p : goal.decreases-loop-p
-decreases-loop-p l = tableau_room - l.p
+decreases-loop-p l = 416 - l.p
