@@ -1,4 +1,6 @@
 // The size of a number that may be below 0, for programs that write one.
+#![tactic(auto)]
+
 ghost use Rattle.std.specs.Prelude.{◌≡◌, nat_abs};
 
 pub fn size_of(n: i64) -> u64

@@ -2,9 +2,10 @@
 use board::{Board, CODES, Examined, ROOM, Refusal};
 use card::Coded;
 use questions::{CountAnswer, Top, TopAnswer, WonAnswer};
+use std::io;
 
 // What is asked about each place of a row: a column's top, what a cell shows, how many of a suit are home.
-#[derive(Drop)]
+#[derive(Clone, Copy)]
 enum Row {
     Columns,
     Cells,
@@ -16,17 +17,17 @@ fn wide(x: u8) -> u64 {
 }
 
 // A number, with a space after it.
-fn number(n: u64) {
-    io::print_decimal(1, n);
-    io::write_all(1, b" ");
+fn number(rt: &impl Print, n: u64) -> io::Result<()> {
+    rt.print(n)?;
+    rt.write_all(b" ")
 }
 
-fn bar() {
-    io::write_all(1, b"|");
+fn bar(rt: &impl Print) -> io::Result<()> {
+    rt.write_all(b"|")
 }
 
-fn line_end() {
-    io::write_all(1, b"\n");
+fn line_end(rt: &impl Print) -> io::Result<()> {
+    rt.write_all(b"\n")
 }
 
 // A refusal, which here stands for an answer.
@@ -75,35 +76,36 @@ fn place(row: Row, b: Board, i: usize) -> u64 {
     }
 }
 
-fn places(row: Row, b: Board, n: usize) {
+fn places(rt: &impl Print, row: Row, b: Board, n: usize) -> io::Result<()> {
     let mut i = 0;
     while i < n {
-        number(place(row, b, i));
+        number(rt, place(row, b, i))?;
         i += 1;
     }
+    Ok(())
 }
 
-fn every_answer(b: Board) {
-    places(Row::Columns, b, 8);
-    places(Row::Cells, b, 4);
-    places(Row::Suits, b, 4);
-    number(count(questions::total_foundation_count(b)));
-    number(count(questions::empty_free_cells(b)));
-    number(count(questions::empty_tableau_columns(b)));
-    io::print_decimal(1, won(questions::is_win(b)));
+fn every_answer(rt: &impl Print, b: Board) -> io::Result<()> {
+    places(rt, Row::Columns, b, 8)?;
+    places(rt, Row::Cells, b, 4)?;
+    places(rt, Row::Suits, b, 4)?;
+    number(rt, count(questions::total_foundation_count(b)))?;
+    number(rt, count(questions::empty_free_cells(b)))?;
+    number(rt, count(questions::empty_tableau_columns(b)))?;
+    rt.print(won(questions::is_win(b)))
 }
 
-pub(crate) fn of_image(image: &[u8]) {
+pub(crate) fn of_image(rt: &impl Print, image: &[u8]) -> io::Result<()> {
     let read = intake::image::read(image);
     let said = read.said;
     let b = read.board;
     match said {
-        Examined::WellFormed => every_answer(b),
+        Examined::WellFormed => every_answer(rt, b)?,
         Examined::Refused(why) => {
-            io::print_decimal(1, refusal(why));
+            rt.print(refusal(why))?;
         }
     }
-    line_end();
+    line_end(rt)
 }
 
 fn code_at(b: Board, i: u8, row: u8) -> u8 {
@@ -115,33 +117,34 @@ fn code_at(b: Board, i: u8, row: u8) -> u8 {
     0
 }
 
-fn column(b: Board, i: u8, n: u8) {
+fn column(rt: &impl Print, b: Board, i: u8, n: u8) -> io::Result<()> {
     let mut row = 0;
     while row < n {
-        number(wide(code_at(b, i, row)));
+        number(rt, wide(code_at(b, i, row)))?;
         row += 1;
     }
-    bar();
+    bar(rt)
 }
 
-fn columns(b: Board) {
+fn columns(rt: &impl Print, b: Board) -> io::Result<()> {
     let counts = b.counts;
     let mut i = 0;
     while i < 8 {
-        column(b, i, counts[i as usize]);
+        column(rt, b, i, counts[i as usize])?;
         i += 1;
     }
+    Ok(())
 }
 
-pub(crate) fn of_deck(deck: &[u8]) {
+pub(crate) fn of_deck(rt: &impl Print, deck: &[u8]) -> io::Result<()> {
     let dealt = intake::deal::deal(deck);
     let said = dealt.said;
     let b = dealt.board;
     match said {
-        Examined::WellFormed => columns(b),
+        Examined::WellFormed => columns(rt, b)?,
         Examined::Refused(why) => {
-            io::print_decimal(1, refusal(why));
+            rt.print(refusal(why))?;
         }
     }
-    line_end();
+    line_end(rt)
 }

@@ -4,6 +4,7 @@ use board::{Board, Examined, Refusal};
 use generate::Way;
 use questions::CountAnswer;
 use rules::YesNo;
+use std::io;
 
 fn refusal(why: Refusal) -> usize {
     board::number(why) as usize
@@ -33,7 +34,7 @@ fn yes(answer: YesNo) -> usize {
 }
 
 // What is asked about each column.
-#[derive(Drop)]
+#[derive(Clone, Copy)]
 enum Row {
     Runs,
     Limits,
@@ -46,12 +47,13 @@ fn asked(row: Row, b: Board, i: usize) -> CountAnswer {
     }
 }
 
-fn columns(row: Row, b: Board) {
+fn columns(rt: &impl Print, row: Row, b: Board) -> io::Result<()> {
     let mut i = 0;
     while i < 8 {
-        text::number(count(asked(row, b, i)));
+        text::number(rt, count(asked(row, b, i)))?;
         i += 1;
     }
+    Ok(())
 }
 
 // The columns that take a card, column i as 2^i; counted from column 7 down.
@@ -67,7 +69,7 @@ fn columns_for(b: Board, code: u8) -> usize {
 }
 
 // For each card the columns that take it, and 256 if its foundation does.
-fn takers(b: Board) {
+fn takers(rt: &impl Print, b: Board) -> io::Result<()> {
     let mut k = 0u8;
     while k < 52 {
         let value = k / 4 + 1;
@@ -75,9 +77,10 @@ fn takers(b: Board) {
         let code = high + k % 4;
         let home = yes(rules::can_add_to_foundation(b, code)) % 256 * 256;
         let columns = columns_for(b, code) % 65536;
-        text::number(columns + home);
+        text::number(rt, columns + home)?;
         k += 1;
     }
+    Ok(())
 }
 
 // What a byte of lent room holds before a call.
@@ -107,18 +110,19 @@ fn kept(out: &[u8], at: usize) -> usize {
     n
 }
 
-fn records(out: &[u8], n: usize) {
+fn records(rt: &impl Print, out: &[u8], n: usize) -> io::Result<()> {
     let mut i = 0;
     while i < n {
         let low = i % 840;
         let at = low * 5;
         let end = at + 5;
         if end <= out.len() {
-            text::bytes(&out[at..end]);
-            text::space();
+            text::bytes(rt, &out[at..end])?;
+            text::space(rt)?;
         }
         i += 1;
     }
+    Ok(())
 }
 
 fn found(b: Board, way: Way, out: &mut [u8]) -> CountAnswer {
@@ -133,96 +137,102 @@ fn found(b: Board, way: Way, out: &mut [u8]) -> CountAnswer {
 }
 
 // The kind, how many moves, their records, how many bytes of the room stayed.
-fn moves(b: Board, way: Way, kind: usize) {
+fn moves(rt: &impl Print, b: Board, way: Way, kind: usize) -> io::Result<()> {
     let mut out = [0u8; 4200];
     fill(&mut out);
     let n = count(found(b, way, &mut out)) % 841;
-    text::number(kind);
-    text::number(n);
-    records(&out, n);
+    text::number(rt, kind)?;
+    text::number(rt, n)?;
+    records(rt, &out, n)?;
     let written = n * 5;
-    io::print_decimal(1, kept(&out, written) as u64);
-    text::line_end();
+    rt.print(kept(&out, written) as u64)?;
+    text::line_end(rt)
 }
 
 // A refused generator: its number, and how many bytes of the room stayed.
-fn refused(b: Board, out: &mut [u8]) {
+fn refused(rt: &impl Print, b: Board, out: &mut [u8]) -> io::Result<()> {
     fill(out);
-    text::number(count(generators::find(b, Way::ColumnToCell, out)));
-    text::number(kept(out, 0));
+    text::number(rt, count(generators::find(b, Way::ColumnToCell, out)))?;
+    text::number(rt, kept(out, 0))
 }
 
-fn one_move(b: Board, bytes: &[u8]) {
+fn one_move(rt: &impl Print, b: Board, bytes: &[u8]) -> io::Result<()> {
     let moved = replay::apply_record(b, bytes);
     let said = moved.said;
     let after = moved.board;
-    text::number(verdict(said));
-    text::board_beside(after, b);
+    text::number(rt, verdict(said))?;
+    text::board_beside(rt, after, b)
 }
 
-fn list(b: Board, bytes: &[u8]) {
+fn list(rt: &impl Print, b: Board, bytes: &[u8]) -> io::Result<()> {
     let replayed = replay::replay(b, bytes);
     let said = replayed.said;
     let after = replayed.board;
-    text::number(verdict(said));
-    text::number(replayed.moves);
-    text::board_beside(after, b);
+    text::number(rt, verdict(said))?;
+    text::number(rt, replayed.moves)?;
+    text::board_beside(rt, after, b)
 }
 
 // A board with a code in a cell that is no card's, and too little room: nothing changes.
-fn damaged(b: Board) {
+fn damaged(rt: &impl Print, b: Board) -> io::Result<()> {
     let mut bad = b;
     bad.cells[0] = 1;
     let mut room = [0u8; 4200];
-    refused(bad, &mut room);
+    refused(rt, bad, &mut room)?;
     let mut little = [0u8; 4179];
-    refused(b, &mut little);
-    one_move(bad, b"\x03\x00\x00\x01\x10");
-    text::space();
-    list(bad, b"");
-    text::line_end();
+    refused(rt, b, &mut little)?;
+    one_move(rt, bad, b"\x03\x00\x00\x01\x10")?;
+    text::space(rt)?;
+    list(rt, bad, b"")?;
+    text::line_end(rt)
 }
 
-fn each_move(b: Board, records: &[u8]) {
+fn each_move(rt: &impl Print, b: Board, records: &[u8]) -> io::Result<()> {
     let mut at = 0;
     while at < records.len() {
         let end = at + 5;
         if records.len() < end {
-            return;
+            return Ok(());
         }
-        one_move(b, &records[at..end]);
-        text::line_end();
+        one_move(rt, b, &records[at..end])?;
+        text::line_end(rt)?;
         at = end;
     }
+    Ok(())
 }
 
-fn all<'a>(b: Board, records: &'a [u8], bytes: &'a [u8]) {
-    columns(Row::Runs, b);
-    columns(Row::Limits, b);
-    text::line_end();
-    takers(b);
-    text::line_end();
-    moves(b, Way::ColumnToHome, 2);
-    moves(b, Way::CellToHome, 5);
-    moves(b, Way::HomeToColumn, 6);
-    moves(b, Way::ColumnToColumn, 1);
-    moves(b, Way::CellToColumn, 4);
-    moves(b, Way::ColumnToCell, 3);
-    damaged(b);
-    each_move(b, records);
-    list(b, bytes);
-    text::line_end();
+fn all<'a>(rt: &impl Print, b: Board, records: &'a [u8], bytes: &'a [u8]) -> io::Result<()> {
+    columns(rt, Row::Runs, b)?;
+    columns(rt, Row::Limits, b)?;
+    text::line_end(rt)?;
+    takers(rt, b)?;
+    text::line_end(rt)?;
+    moves(rt, b, Way::ColumnToHome, 2)?;
+    moves(rt, b, Way::CellToHome, 5)?;
+    moves(rt, b, Way::HomeToColumn, 6)?;
+    moves(rt, b, Way::ColumnToColumn, 1)?;
+    moves(rt, b, Way::CellToColumn, 4)?;
+    moves(rt, b, Way::ColumnToCell, 3)?;
+    damaged(rt, b)?;
+    each_move(rt, b, records)?;
+    list(rt, b, bytes)?;
+    text::line_end(rt)
 }
 
-pub(crate) fn of_board<'a>(image: &'a [u8], records: &'a [u8], bytes: &'a [u8]) {
+pub(crate) fn of_board<'a>(
+    rt: &impl Print,
+    image: &'a [u8],
+    records: &'a [u8],
+    bytes: &'a [u8],
+) -> io::Result<()> {
     let read = intake::image::read(image);
     let said = read.said;
     let b = read.board;
     match said {
-        Examined::WellFormed => all(b, records, bytes),
+        Examined::WellFormed => all(rt, b, records, bytes),
         Examined::Refused(why) => {
-            text::number(refusal(why));
-            text::line_end();
+            text::number(rt, refusal(why))?;
+            text::line_end(rt)
         }
     }
 }

@@ -2,6 +2,7 @@
 ghost use Rattle.std.specs.Prelude.{◌≤◌};
 
 use board::{Board, CODES, ROOM};
+use std::io;
 
 fn wide(x: u8) -> u64 {
     x as u64
@@ -17,35 +18,36 @@ pub(crate) fn one_if(so: bool) -> usize
 }
 
 // A number, with a space after it.
-pub(crate) fn number(n: usize) {
-    io::print_decimal(1, n as u64);
-    io::write_all(1, b" ");
+pub(crate) fn number(rt: &impl Print, n: usize) -> io::Result<()> {
+    rt.print(n as u64)?;
+    rt.write_all(b" ")
 }
 
-pub(crate) fn line_end() {
-    io::write_all(1, b"\n");
+pub(crate) fn line_end(rt: &impl Print) -> io::Result<()> {
+    rt.write_all(b"\n")
 }
 
-pub(crate) fn heading() {
-    io::write_all(1, b"columns over seven\n");
+pub(crate) fn heading(rt: &impl Print) -> io::Result<()> {
+    rt.write_all(b"columns over seven\n")
 }
 
 // The given board.
-pub(crate) fn equal() {
-    io::write_all(1, b"=");
+pub(crate) fn equal(rt: &impl Print) -> io::Result<()> {
+    rt.write_all(b"=")
 }
 
 // Bytes as pairs of digits.
-pub(crate) fn bytes(s: &[u8]) {
+pub(crate) fn bytes(rt: &impl Print, s: &[u8]) -> io::Result<()> {
     let mut i = 0;
     while i < s.len() {
-        io::print_hex(1, wide(s[i]), 2);
+        print!(rt; "{:02x}", wide(s[i]))?;
         i += 1;
     }
+    Ok(())
 }
 
-pub(crate) fn space() {
-    io::write_all(1, b" ");
+pub(crate) fn space(rt: &impl Print) -> io::Result<()> {
+    rt.write_all(b" ")
 }
 
 // How many bytes are not zero.
@@ -60,41 +62,41 @@ fn marked(s: &[u8]) -> usize {
 }
 
 // A column's codes, and how many bytes of its unused room are not zero.
-fn column(room: &[u8], count: usize) -> usize {
+fn column(rt: &impl Print, room: &[u8], count: usize) -> io::Result<usize> {
     let end = room.len();
     if end < count {
-        return 0;
+        return Ok(0);
     }
-    bytes(&room[0..count]);
-    io::write_all(1, b"|");
-    marked(&room[count..end])
+    bytes(rt, &room[0..count])?;
+    rt.write_all(b"|")?;
+    Ok(marked(&room[count..end]))
 }
 
-fn columns<'a>(counts: &'a [u8], tableau: &'a [u8]) {
+fn columns<'a>(rt: &impl Print, counts: &'a [u8], tableau: &'a [u8]) -> io::Result<()> {
     if counts.len() < 8 {
-        return;
+        return Ok(());
     }
     if tableau.len() < CODES {
-        return;
+        return Ok(());
     }
     let mut spare = 0;
     let mut i = 0;
     while i < 8 {
         let first = i * ROOM;
         let end = first + ROOM;
-        spare = spare % CODES + column(&tableau[first..end], base::wide(counts[i])) % 53;
+        spare = spare % CODES + column(rt, &tableau[first..end], base::wide(counts[i]))? % 53;
         i += 1;
     }
-    space();
-    io::print_decimal(1, spare as u64);
+    space(rt)?;
+    rt.print(spare as u64)
 }
 
-pub(crate) fn board(b: Board) {
-    bytes(&b.cells);
-    space();
-    bytes(&b.foundation);
-    space();
-    columns(&b.counts, &b.tableau);
+pub(crate) fn board(rt: &impl Print, b: Board) -> io::Result<()> {
+    bytes(rt, &b.cells)?;
+    space(rt)?;
+    bytes(rt, &b.foundation)?;
+    space(rt)?;
+    columns(rt, &b.counts, &b.tableau)
 }
 
 fn same_bytes<'a>(s: &'a [u8], t: &'a [u8]) -> bool {
@@ -125,10 +127,11 @@ fn same(a: Board, b: Board) -> bool {
 }
 
 // A board beside the one that was given: `=` if every byte is the same.
-pub(crate) fn board_beside(b: Board, given: Board) {
+pub(crate) fn board_beside(rt: &impl Print, b: Board, given: Board) -> io::Result<()> {
     if same(b, given) {
-        equal();
+        equal(rt)?;
     } else {
-        board(b);
+        board(rt, b)?;
     }
+    Ok(())
 }

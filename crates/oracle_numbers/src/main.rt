@@ -1,8 +1,11 @@
 // Writes some hands as players write them, a column a line, and a hash over the decks of all numbers, for comparison with the
 // published listings (compare/src/listings.rs).
+#![tactic(auto)]
+
 ghost use Rattle.std.specs.Prelude.{◌<◌, ◌≤◌};
 
 use board::{Board, Examined, ROOM};
+use std::io;
 
 // The largest number.
 const LAST: usize = 32_000;
@@ -16,23 +19,23 @@ const VALUES: [u8; 16] = [
 
 const SUITS: [u8; 4] = [67, 68, 72, 83];
 
-fn space() {
-    io::write_all(1, b" ");
+fn space(rt: &impl Print) -> io::Result<()> {
+    rt.write_all(b" ")
 }
 
-fn line_end() {
-    io::write_all(1, b"\n");
+fn line_end(rt: &impl Print) -> io::Result<()> {
+    rt.write_all(b"\n")
 }
 
 // A card's value, then its suit.
-fn card(code: u8) {
+fn card(rt: &impl Print, code: u8) -> io::Result<()> {
     let value = code as usize / 16;
     let suit = code as usize % 4;
     let text = [VALUES[value], SUITS[suit]];
-    io::write_all(1, &text);
+    rt.write_all(&text)
 }
 
-fn column(b: Board, i: usize)
+fn column(rt: &impl Print, b: Board, i: usize) -> io::Result<()>
     requires { i < 8 }
 {
     let start = i * ROOM;
@@ -40,35 +43,36 @@ fn column(b: Board, i: usize)
     while row < 7 {
         if row < b.counts[i] as usize {
             if 0 < row {
-                space();
+                space(rt)?;
             }
-            card(b.tableau[start + row]);
+            card(rt, b.tableau[start + row])?;
         }
         row += 1;
     }
-    line_end();
+    line_end(rt)
 }
 
-fn columns(b: Board) {
+fn columns(rt: &impl Print, b: Board) -> io::Result<()> {
     let mut i = 0;
     while i < 8 {
-        column(b, i);
+        column(rt, b, i)?;
         i += 1;
     }
+    Ok(())
 }
 
 // The number and its hand, or the refusal.
-fn hand(number: usize) {
-    io::print_decimal(1, number as u64);
-    line_end();
+fn hand(rt: &impl Print, number: usize) -> io::Result<()> {
+    rt.print(number as u64)?;
+    line_end(rt)?;
     let dealt = intake::number::hand(number);
     let said = dealt.said;
     let b = dealt.board;
     match said {
-        Examined::WellFormed => columns(b),
+        Examined::WellFormed => columns(rt, b),
         Examined::Refused(why) => {
-            io::print_decimal(1, board::number(why) as u64);
-            line_end();
+            rt.print(board::number(why) as u64)?;
+            line_end(rt)
         }
     }
 }
@@ -107,17 +111,17 @@ fn all_decks() -> u64 {
     hash
 }
 
-fn main() {
+fn main(rt: HostRuntime) -> io::Result<()> {
     let mut k = 0;
     while k < 8 {
-        hand(CHOSEN[k]);
+        hand(&rt, CHOSEN[k])?;
         k += 1;
     }
-    hand(0);
-    hand(LAST + 1);
-    hand(2_147_484_265);
-    hand(4_294_967_297);
-    hand(18_446_744_073_709_551_615);
-    io::print_hex(1, all_decks(), 16);
-    line_end();
+    hand(&rt, 0)?;
+    hand(&rt, LAST + 1)?;
+    hand(&rt, 2_147_484_265)?;
+    hand(&rt, 4_294_967_297)?;
+    hand(&rt, 18_446_744_073_709_551_615)?;
+    print!(rt; "{:016x}", all_decks())?;
+    line_end(&rt)
 }

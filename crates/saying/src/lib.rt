@@ -1,26 +1,30 @@
 // What programs write of lent memory: labels, numbers, how much of it is not zero, the words of a sheet.
+#![tactic(auto)]
+
 ghost use Rattle.std.specs.Prelude.{◌≤◌, length};
 
-pub fn text(s: &[u8]) {
-    io::write_all(1, s);
+use std::io;
+
+pub fn text(rt: &impl Print, s: &[u8]) -> io::Result<()> {
+    rt.write_all(s)
 }
 
 // A number, with a space before it.
-pub fn number(n: usize) {
-    io::write_all(1, b" ");
-    io::print_decimal(1, n as u64);
+pub fn number(rt: &impl Print, n: usize) -> io::Result<()> {
+    rt.write_all(b" ")?;
+    rt.print(n)
 }
 
 fn wide(x: u8) -> usize {
     x as usize
 }
 
-pub fn byte(n: u8) {
-    number(wide(n));
+pub fn byte(rt: &impl Print, n: u8) -> io::Result<()> {
+    number(rt, wide(n))
 }
 
-pub fn line_end() {
-    io::write_all(1, b"\n");
+pub fn line_end(rt: &impl Print) -> io::Result<()> {
+    rt.write_all(b"\n")
 }
 
 pub fn one_if(so: bool) -> usize
@@ -72,24 +76,24 @@ fn equal_longs(room: &[u64], value: u64) -> usize
 }
 
 // A word with its place, unless it is zero or rubbish.
-fn figure(at: usize, value: u64, rubbish: u64) {
+fn figure(rt: &impl Print, at: usize, value: u64, rubbish: u64) -> io::Result<()> {
     if value == 0 {
-        return;
+        return Ok(());
     }
     if value == rubbish {
-        return;
+        return Ok(());
     }
-    number(at);
-    text(b":");
-    io::print_decimal(1, value);
+    number(rt, at)?;
+    text(rt, b":")?;
+    rt.print(value)
 }
 
 // The words of a sheet that are neither zero nor what lay there before, each with its place, and the end of the line.
-pub fn sheet(words: &[u64], rubbish: u64) {
+pub fn sheet(rt: &impl Print, words: &[u64], rubbish: u64) -> io::Result<()> {
     let mut k = 0;
     while k < words.len() {
-        figure(k, words[k], rubbish);
+        figure(rt, k, words[k], rubbish)?;
         k += 1;
     }
-    line_end();
+    line_end(rt)
 }

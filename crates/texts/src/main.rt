@@ -1,5 +1,8 @@
 // Feeds the text of oneboard the inputs that stand on standard input, each after a two-byte count, the higher byte first,
 // and writes each text, and a line of two dashes after it.
+#![tactic(auto)]
+
+use std::io;
 
 // A two-byte count, the higher byte first.
 fn count(high: u8, low: u8) -> usize {
@@ -7,36 +10,37 @@ fn count(high: u8, low: u8) -> usize {
     upper + low as usize
 }
 
-fn text(image: &[u8]) {
+fn text(rt: &impl Print, image: &[u8]) -> io::Result<()> {
     let mut out = [0u8; 4096];
     let m = onetext::judge_image(image, &mut out);
-    io::write_all(1, &out[..m]);
-    io::write_all(1, b"--\n");
+    rt.write_all(&out[..m])?;
+    rt.write_all(b"--\n")
 }
 
 // Writes the text of the first input, and answers how many bytes it took; 0 where no whole input is left.
-fn item(s: &[u8]) -> usize {
+fn item(rt: &impl Print, s: &[u8]) -> io::Result<usize> {
     if s.len() < 2 {
-        return 0;
+        return Ok(0);
     }
     let size = count(s[0], s[1]) % 65536 + 2;
     if s.len() < size {
-        return 0;
+        return Ok(0);
     }
-    text(&s[2..size]);
-    size
+    text(rt, &s[2..size])?;
+    Ok(size)
 }
 
-fn items(s: &[u8]) {
+fn items(rt: &impl Print, s: &[u8]) -> io::Result<()> {
     let mut at = 0;
     while at < s.len() {
-        let size = item(&s[at..]);
+        let size = item(rt, &s[at..])?;
         at = framed::after(at, size, s.len());
     }
+    Ok(())
 }
 
-fn main() {
-    let mut input = io::large_buffer();
-    let n = io::read_full(0, &mut input);
-    items(&input[..n]);
+fn main(rt: HostRuntime) -> io::Result<()> {
+    let mut input = [0u8; 65536];
+    let n = taking::read_full(&mut rt.stdin(), &mut input)?;
+    items(&rt, &input[..n])
 }

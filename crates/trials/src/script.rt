@@ -1,8 +1,9 @@
 // The script of the trials: its lines, their words, and the bytes that the words lay down.
 use crate::kinds;
+use std::io;
 
 // Where the next byte goes, and how many bytes there are.
-#[derive(Drop)]
+#[derive(Clone, Copy)]
 struct Pen {
     at: usize,
     n: usize,
@@ -152,34 +153,48 @@ fn place_in(words: &[u8]) -> usize {
 }
 
 // A trial of the first n bytes of the room.
-fn cut(kind: u8, label: &[u8], place: usize, room: &[u8; 65536], n: usize) {
+fn cut(
+    rt: &impl Print,
+    kind: u8,
+    label: &[u8],
+    place: usize,
+    room: &[u8; 65536],
+    n: usize,
+) -> io::Result<()> {
     let whole = &room[..];
     if n <= whole.len() {
-        kinds::tried(kind, label, place, &whole[0..n]);
+        kinds::tried(rt, kind, label, place, &whole[0..n])?;
     }
+    Ok(())
 }
 
 // A trial: its label, and its bytes by the words of the base and then by its own.
-fn trial(kind: u8, label: &[u8], base: &[u8], words: &[u8]) {
+fn trial(rt: &impl Print, kind: u8, label: &[u8], base: &[u8], words: &[u8]) -> io::Result<()> {
     let mut room = [0u8; 65536];
     let first = laid(base, 0, &mut room);
     let n = laid(words, first, &mut room);
-    cut(kind, label, place_in(words), &room, n);
+    cut(rt, kind, label, place_in(words), &room, n)
 }
 
 // A line of the script, if it is a trial: a kind, a label, the words of its bytes.
-fn line_done(base: &[u8], line: &[u8]) {
+fn line_done(rt: &impl Print, base: &[u8], line: &[u8]) -> io::Result<()> {
     if line.len() < 1 {
-        return;
+        return Ok(());
     }
     let kind = line[0];
     if kind < b'a' {
-        return;
+        return Ok(());
     }
     let name = part(line, find(line, 0, b' '), line.len());
     let rest = part(name, 1, name.len());
     let end = find(rest, 0, b' ');
-    trial(kind, part(rest, 0, end), base, part(rest, end, rest.len()));
+    trial(
+        rt,
+        kind,
+        part(rest, 0, end),
+        base,
+        part(rest, end, rest.len()),
+    )
 }
 
 fn is_base(line: &[u8]) -> bool {
@@ -190,7 +205,7 @@ fn is_base(line: &[u8]) -> bool {
 }
 
 // Each line of the script. A base serves the trials after it.
-pub(crate) fn lines(s: &[u8]) {
+pub(crate) fn lines(rt: &impl Print, s: &[u8]) -> io::Result<()> {
     let mut from = 0;
     let mut to = 0;
     let mut at = 0;
@@ -200,13 +215,14 @@ pub(crate) fn lines(s: &[u8]) {
             from = at;
             to = end;
         }
-        line_done(part(s, from, to), part(s, at, end));
+        line_done(rt, part(s, from, to), part(s, at, end))?;
         if end < at {
-            return;
+            return Ok(());
         }
         if s.len() <= end {
-            return;
+            return Ok(());
         }
         at = end + 1;
     }
+    Ok(())
 }

@@ -1,5 +1,6 @@
 // What a trial of the search writes: the answer, then what it left in the memory that was lent.
 use saying::{number, one_if, text};
+use std::io;
 
 // What the list buffer holds before a search.
 pub(crate) const MARK: u8 = 7;
@@ -20,28 +21,29 @@ fn kept(room: &[u8], from: usize) -> usize {
 }
 
 // A byte of the list as two digits, with a space before each record.
-fn digits(k: usize, byte: u8) {
+fn digits(rt: &impl Print, k: usize, byte: u8) -> io::Result<()> {
     if k % 5 == 0 {
-        text(b" ");
+        text(rt, b" ")?;
     }
-    io::print_hex(1, wide(byte), 2);
+    print!(rt; "{:02x}", wide(byte))
 }
 
 // The first bytes of the list buffer.
-fn records(room: &[u8], end: usize) {
+fn records(rt: &impl Print, room: &[u8], end: usize) -> io::Result<()> {
     let mut k = 0;
     while k < end {
         if room.len() <= k {
-            return;
+            return Ok(());
         }
-        digits(k, room[k]);
+        digits(rt, k, room[k])?;
         k += 1;
     }
+    Ok(())
 }
 
 // How many bytes behind the list are as they were, and the list.
-pub(crate) fn list(room: &[u8], moves: usize) {
+pub(crate) fn list(rt: &impl Print, room: &[u8], moves: usize) -> io::Result<()> {
     let end = moves % 201 * 5;
-    number(kept(room, end));
-    records(room, end);
+    number(rt, kept(room, end))?;
+    records(rt, room, end)
 }

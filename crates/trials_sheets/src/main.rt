@@ -1,6 +1,9 @@
 // Sheets added that come from outside: each clause of 47 by a changed word, 45, 44, sums, wins of two lengths, sheets of other lengths.
 // Each line: a label, the number (0: added), and the words of the first sheet afterwards that are not zero, each with its place.
+#![tactic(auto)]
+
 use board::Examined;
+use std::io;
 
 // A word of a sheet, if there is one at that place.
 fn put(sheet: &mut [u64], at: usize, value: u64) {
@@ -50,15 +53,24 @@ fn number_of(said: Examined) -> u8 {
     }
 }
 
-fn added(label: &[u8], into: &mut [u64], other: &[u64]) {
+fn added(rt: &impl Print, label: &[u8], into: &mut [u64], other: &[u64]) -> io::Result<()> {
     let said = totals::add(into, other);
-    saying::text(label);
-    saying::byte(number_of(said));
-    saying::sheet(into, 0);
+    saying::text(rt, label)?;
+    saying::byte(rt, number_of(said))?;
+    saying::sheet(rt, into, 0)
 }
 
 // Up to two words of the first sheet and one of the second are changed; place 716 changes none.
-fn tried(label: &[u8], at: usize, value: u64, also: usize, more: u64, other_at: usize, other: u64) {
+fn tried(
+    rt: &impl Print,
+    label: &[u8],
+    at: usize,
+    value: u64,
+    also: usize,
+    more: u64,
+    other_at: usize,
+    other: u64,
+) -> io::Result<()> {
     let mut a = [0u64; 716];
     let mut b = [0u64; 716];
     won(&mut a);
@@ -66,86 +78,99 @@ fn tried(label: &[u8], at: usize, value: u64, also: usize, more: u64, other_at: 
     put(&mut a, at, value);
     put(&mut a, also, more);
     put(&mut b, other_at, other);
-    added(label, &mut a, &b);
+    added(rt, label, &mut a, &b)
 }
 
-fn one(label: &[u8], at: usize, value: u64) {
-    tried(label, at, value, 716, 0, 716, 0);
+fn one(rt: &impl Print, label: &[u8], at: usize, value: u64) -> io::Result<()> {
+    tried(rt, label, at, value, 716, 0, 716, 0)
 }
 
-fn two(label: &[u8], at: usize, value: u64, also: usize, more: u64) {
-    tried(label, at, value, also, more, 716, 0);
+fn two(
+    rt: &impl Print,
+    label: &[u8],
+    at: usize,
+    value: u64,
+    also: usize,
+    more: u64,
+) -> io::Result<()> {
+    tried(rt, label, at, value, also, more, 716, 0)
 }
 
-fn other(label: &[u8], at: usize, value: u64) {
-    tried(label, 716, 0, 716, 0, at, value);
+fn other(rt: &impl Print, label: &[u8], at: usize, value: u64) -> io::Result<()> {
+    tried(rt, label, 716, 0, 716, 0, at, value)
 }
 
-fn wrong_figures() {
-    one(b"budget_1000001", 0, 1000001);
-    one(b"answers_more", 4, 1);
-    two(b"answers_wrap", 4, 18446744073709551615, 5, 1);
-    two(b"answers_wrap_to_1", 3, 18446744073709551615, 5, 2);
-    one(b"answers_none", 3, 0);
-    one(b"covers_more", 217, 1);
-    one(b"covers_none", 216, 0);
-    one(b"lengths_more", 111, 1);
-    two(b"lengths_wrap", 111, 18446744073709551615, 112, 1);
-    one(b"lengths_none", 110, 0);
-    one(b"pops_1000", 10, 1000);
-    one(b"pops_1001", 10, 1001);
-    two(b"budget_0_pops_0", 0, 0, 10, 0);
+fn wrong_figures(rt: &impl Print) -> io::Result<()> {
+    one(rt, b"budget_1000001", 0, 1000001)?;
+    one(rt, b"answers_more", 4, 1)?;
+    two(rt, b"answers_wrap", 4, 18446744073709551615, 5, 1)?;
+    two(rt, b"answers_wrap_to_1", 3, 18446744073709551615, 5, 2)?;
+    one(rt, b"answers_none", 3, 0)?;
+    one(rt, b"covers_more", 217, 1)?;
+    one(rt, b"covers_none", 216, 0)?;
+    one(rt, b"lengths_more", 111, 1)?;
+    two(rt, b"lengths_wrap", 111, 18446744073709551615, 112, 1)?;
+    one(rt, b"lengths_none", 110, 0)?;
+    one(rt, b"pops_1000", 10, 1000)?;
+    one(rt, b"pops_1001", 10, 1001)?;
+    two(rt, b"budget_0_pops_0", 0, 0, 10, 0)
 }
 
-fn wrong_marks() {
-    one(b"shortest_94", 11, 94);
-    one(b"shortest_201", 11, 201);
-    one(b"shortest_18446744073709551615", 11, 18446744073709551615);
-    one(b"shortest_deal_4", 12, 4);
-    one(b"shortest_deal_32001", 12, 32001);
-    two(b"shortest_absent", 11, 0, 12, 0);
-    one(b"longest_96", 13, 96);
-    one(b"longest_deal_0", 14, 0);
-    two(b"longest_absent", 13, 0, 14, 0);
-    two(b"length_moved", 110, 0, 111, 1);
-    other(b"other_shortest_without_win", 12, 5);
-    other(b"other_longest_without_win", 13, 1);
-    other(b"other_budget_1000001", 0, 1000001);
-    other(b"other_pops_1001", 10, 1001);
+fn wrong_marks(rt: &impl Print) -> io::Result<()> {
+    one(rt, b"shortest_94", 11, 94)?;
+    one(rt, b"shortest_201", 11, 201)?;
+    one(
+        rt,
+        b"shortest_18446744073709551615",
+        11,
+        18446744073709551615,
+    )?;
+    one(rt, b"shortest_deal_4", 12, 4)?;
+    one(rt, b"shortest_deal_32001", 12, 32001)?;
+    two(rt, b"shortest_absent", 11, 0, 12, 0)?;
+    one(rt, b"longest_96", 13, 96)?;
+    one(rt, b"longest_deal_0", 14, 0)?;
+    two(rt, b"longest_absent", 13, 0, 14, 0)?;
+    two(rt, b"length_moved", 110, 0, 111, 1)?;
+    other(rt, b"other_shortest_without_win", 12, 5)?;
+    other(rt, b"other_longest_without_win", 13, 1)?;
+    other(rt, b"other_budget_1000001", 0, 1000001)?;
+    other(rt, b"other_pops_1001", 10, 1001)
 }
 
-fn settings_and_numbers() {
-    one(b"sum", 716, 0);
-    one(b"budget_999", 0, 999);
-    one(b"capacity_65", 1, 65);
-    one(b"capacity_0", 1, 0);
-    one(b"flag_0", 2, 0);
-    one(b"flag_9_is_yes", 2, 9);
+fn settings_and_numbers(rt: &impl Print) -> io::Result<()> {
+    one(rt, b"sum", 716, 0)?;
+    one(rt, b"budget_999", 0, 999)?;
+    one(rt, b"capacity_65", 1, 65)?;
+    one(rt, b"capacity_0", 1, 0)?;
+    one(rt, b"flag_0", 2, 0)?;
+    one(rt, b"flag_9_is_yes", 2, 9)?;
     other(
+        rt,
         b"other_flag_18446744073709551615_is_yes",
         2,
         18446744073709551615,
-    );
-    other(b"common_3", 216, 4);
-    tried(b"45_before_44", 1, 65, 716, 0, 216, 4);
-    tried(b"47_before_45", 1, 65, 716, 0, 10, 1001);
-    tried(b"deals_without_number", 716, 0, 716, 0, 216, 0);
+    )?;
+    other(rt, b"common_3", 216, 4)?;
+    tried(rt, b"45_before_44", 1, 65, 716, 0, 216, 4)?;
+    tried(rt, b"47_before_45", 1, 65, 716, 0, 10, 1001)?;
+    tried(rt, b"deals_without_number", 716, 0, 716, 0, 216, 0)
 }
 
 // A sheet with itself, with deals and without.
-fn with_itself() {
+fn with_itself(rt: &impl Print) -> io::Result<()> {
     let mut a = [0u64; 716];
     let mut b = [0u64; 716];
     won(&mut a);
     won(&mut b);
-    added(b"itself", &mut a, &b);
+    added(rt, b"itself", &mut a, &b)?;
     let mut c = [0u64; 716];
     let d = [0u64; 716];
-    added(b"empty_itself", &mut c, &d);
+    added(rt, b"empty_itself", &mut c, &d)
 }
 
 // Two wins: equal lists keep the lower deal, whichever is added to which.
-fn ties() {
+fn ties(rt: &impl Print) -> io::Result<()> {
     let mut a = [0u64; 716];
     let mut b = [0u64; 716];
     won(&mut a);
@@ -154,10 +179,10 @@ fn ties() {
     put(&mut b, 14, 32000);
     put(&mut b, 216, 0);
     put(&mut b, 715, 9223372036854775808);
-    added(b"tie", &mut a, &b);
+    added(rt, b"tie", &mut a, &b)?;
     let mut c = [0u64; 716];
     won(&mut c);
-    added(b"tie_turned", &mut b, &c);
+    added(rt, b"tie_turned", &mut b, &c)
 }
 
 fn two_figures(sheet: &mut [u64]) {
@@ -183,40 +208,46 @@ fn two_wins(sheet: &mut [u64], shortest: u64, longest: u64) {
 }
 
 // Added from either side.
-fn marked(label: &[u8], turned: &[u8], shortest: u64, longest: u64) {
+fn marked(
+    rt: &impl Print,
+    label: &[u8],
+    turned: &[u8],
+    shortest: u64,
+    longest: u64,
+) -> io::Result<()> {
     let mut a = [0u64; 716];
     let mut b = [0u64; 716];
     let mut c = [0u64; 716];
     two_wins(&mut a, shortest, longest);
     limit(&mut b);
-    added(label, &mut a, &b);
+    added(rt, label, &mut a, &b)?;
     two_wins(&mut c, shortest, longest);
-    added(turned, &mut b, &c);
+    added(rt, turned, &mut b, &c)
 }
 
 // Wins of two lengths: the shortest is the shorter, the longest the longer of them, and a mark of the other one's length is wrong.
-fn two_lengths() {
-    marked(b"wins_80_95", b"other_wins_80_95", 80, 95);
-    marked(b"wins_shortest_95", b"other_wins_shortest_95", 95, 95);
-    marked(b"wins_longest_80", b"other_wins_longest_80", 80, 80);
-    marked(b"wins_exchanged", b"other_wins_exchanged", 95, 80);
-    marked(b"wins_shortest_79", b"other_wins_shortest_79", 79, 95);
-    marked(b"wins_longest_96", b"other_wins_longest_96", 80, 96);
+fn two_lengths(rt: &impl Print) -> io::Result<()> {
+    marked(rt, b"wins_80_95", b"other_wins_80_95", 80, 95)?;
+    marked(rt, b"wins_shortest_95", b"other_wins_shortest_95", 95, 95)?;
+    marked(rt, b"wins_longest_80", b"other_wins_longest_80", 80, 80)?;
+    marked(rt, b"wins_exchanged", b"other_wins_exchanged", 95, 80)?;
+    marked(rt, b"wins_shortest_79", b"other_wins_shortest_79", 79, 95)?;
+    marked(rt, b"wins_longest_96", b"other_wins_longest_96", 80, 96)
 }
 
 // A third win, deal 3 with 95 moves: the shortest stays, the longest has the lower deal, whichever is added to which.
-fn third_win() {
+fn third_win(rt: &impl Print) -> io::Result<()> {
     let mut a = [0u64; 716];
     let mut b = [0u64; 716];
     let mut c = [0u64; 716];
     two_wins(&mut a, 80, 95);
     won(&mut b);
-    added(b"third_win", &mut a, &b);
+    added(rt, b"third_win", &mut a, &b)?;
     two_wins(&mut c, 80, 95);
-    added(b"third_win_turned", &mut b, &c);
+    added(rt, b"third_win_turned", &mut b, &c)
 }
 
-fn lengths() {
+fn lengths(rt: &impl Print) -> io::Result<()> {
     let mut a = [0u64; 715];
     let mut b = [0u64; 717];
     let mut c = [0u64; 716];
@@ -224,20 +255,20 @@ fn lengths() {
     won(&mut a);
     won(&mut b);
     limit(&mut c);
-    added(b"words_715", &mut a, &c);
-    added(b"words_717", &mut b, &c);
-    added(b"other_words_715", &mut c, &a);
-    added(b"other_words_717", &mut c, &b);
-    added(b"other_words_0", &mut c, &none);
+    added(rt, b"words_715", &mut a, &c)?;
+    added(rt, b"words_717", &mut b, &c)?;
+    added(rt, b"other_words_715", &mut c, &a)?;
+    added(rt, b"other_words_717", &mut c, &b)?;
+    added(rt, b"other_words_0", &mut c, &none)
 }
 
-fn main() {
-    wrong_figures();
-    wrong_marks();
-    settings_and_numbers();
-    with_itself();
-    ties();
-    two_lengths();
-    third_win();
-    lengths();
+fn main(rt: HostRuntime) -> io::Result<()> {
+    wrong_figures(&rt)?;
+    wrong_marks(&rt)?;
+    settings_and_numbers(&rt)?;
+    with_itself(&rt)?;
+    ties(&rt)?;
+    two_lengths(&rt)?;
+    third_win(&rt)?;
+    lengths(&rt)
 }

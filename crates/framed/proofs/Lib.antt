@@ -1,2 +1,0 @@
--- Laws for the function.
-pub mod Stepping
