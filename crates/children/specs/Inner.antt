@@ -1,6 +1,5 @@
 -- What the birth of children asks and promises.
-use Rattle.std.specs.Prelude.{◌≡◌, true, false, ◌&&◌, List, ◌⊎◌, ℕ, ◌+◌, ◌<◌, ◌≤◌, length, get_or}
-use Rattle.board.specs.Table.{Table}
+use Rattle.std.specs.Prelude.{◌≡◌, true, false, List, ◌⊎◌, ℕ, ◌<◌, ◌≤◌, length, get_or}
 use Rattle.board.specs.Record.{shown}
 use Rattle.board.specs.Inner.{Sound}
 use Rattle.board.specs.declared.Board.{Board}
@@ -8,7 +7,6 @@ use Rattle.moves.specs.Move.{sayable, count}
 use Rattle.moves.specs.declared.Move.{Move}
 use Rattle.frontier.specs.Heap.{Heap}
 use Rattle.costs.specs.Table as costs
-use Rattle.costs.specs.Entries as entries
 use Rattle.costs.specs.CostIn.{cost_in}
 use Rattle.costs.specs.Promises.{Held, Vacant, Place}
 use Rattle.signature.specs.Signed.{signature_of}
@@ -20,12 +18,9 @@ use Rattle.memory.specs.declared.Room.{Room}
 use Rattle.memory.specs.declared.Counts.{Counts}
 use Rattle.memory.specs.declared.Growth.{Growth}
 use Rattle.memory.specs.declared.Growth.TheVariants as growth
-use Rattle.memory.specs.declared.Advance.TheVariants as advance
-use Rattle.memory.specs.declared.Ended.TheVariants as ended
 use Rattle.memory.specs.Memory.{Memory, Fits}
 use Rattle.memory.specs.View.{told, node_of, state_of, grown_of}
 use Rattle.memory.specs.Machine.{Machine}
-use Rattle.moves.specs.Written.{written}
 use Rattle.children.specs.declared.Choice.{Choice}
 use Rattle.children.specs.declared.Choice.TheVariants.{Dropped, Slot}
 

@@ -1,5 +1,6 @@
 // A node's children, one after the other (after freecell/solver.rs, the loop over `expansions`, changed: NOTICE).
 #![tactic(auto)]
+
 ghost use Rattle.std.specs.Prelude.{◌≡◌, ◌<◌, ◌≤◌};
 ghost use Rattle.board.specs.Record.{shown, laid};
 ghost use Rattle.costs.specs.Entries.{used};

@@ -2,7 +2,7 @@
 -- diamonds to the queen, hearts to the knave, spades to the ten; the king of diamonds and the queen of hearts lie in cells 0 and 2, the king of
 -- hearts with the knave of spades on it in column 0, the queen of spades with the king on it in column 3.
 use mathlib.Core.Path.{◌≡◌, refl}
-use mathlib.Core.List.{List, [], ◌∷◌, ◌++◌}
+use mathlib.Core.List.{List, ◌∷◌, ◌++◌}
 use Prim.Native.Nat.{ℕ}
 use lib.ListN.{replicate}
 use Rattle.base.specs.Words.{every, all, occurs, listed, concat, sum}

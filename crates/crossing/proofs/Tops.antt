@@ -14,7 +14,7 @@ use Rattle.card.specs.declared.Card.{Card}
 use Rattle.card.proofs.Codes.{value_of_card}
 use Rattle.board.specs.Verdict.{Verdict, fine, after, is_cell}
 use Rattle.board.specs.Record.{examined, shown}
-use Rattle.board.specs.Inner.{Sized, Sound}
+use Rattle.board.specs.Inner.{Sized}
 use Rattle.board.specs.Refusal.{number_of}
 use Rattle.board.specs.declared.Board.{Board}
 use Rattle.board.specs.declared.Refusal.{Refusal}

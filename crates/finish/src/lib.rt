@@ -1,5 +1,6 @@
 // The answer to a search that has ended, and its list (after freecell/solver.rs, `reconstruct_moves`, changed: NOTICE).
 #![tactic(auto)]
+
 ghost use Rattle.std.specs.Prelude.{◌≡◌, true, not, ◌&&◌, eqb, ◌<◌, ◌≤◌, length};
 ghost use Rattle.board.specs.Record.{shown};
 ghost use Rattle.board.specs.Inner.{Sound};

@@ -1,6 +1,7 @@
 // The line of a node as records, root first: each node's first move, and then its chain's (after freecell/solver.rs,
 // `reconstruct_moves`, changed: NOTICE).
 #![tactic(auto)]
+
 ghost use Rattle.std.specs.Prelude.{◌+◌, ◌*◌, ◌<◌, ◌≤◌, length, take};
 ghost use Rattle.board.specs.Record.{shown};
 ghost use Rattle.board.specs.Inner.{Sound};

@@ -16,7 +16,7 @@ use Rattle.signature.specs.Signed.{signature_of}
 use Rattle.candidates.specs.Children.{child_moves}
 use Rattle.nodes.specs.Line.{line_to, table_to}
 use Rattle.search.specs.Freecell.{freecell}
-use Rattle.search.specs.Solve.{Perhaps, Node, Grown, grown, as_good, child_of, dropped, no_room, born_as, bear}
+use Rattle.search.specs.Solve.{Perhaps, Node, grown, as_good, child_of, dropped, no_room, born_as, bear}
 use Rattle.memory.specs.declared.Room.{Room}
 use Rattle.memory.specs.declared.Counts.{Counts}
 use Rattle.memory.specs.declared.Growth.TheVariants as growth

@@ -1,5 +1,6 @@
 // What the search tries on a board, in order (after freecell/solver.rs, `find_all_moves`, changed: NOTICE).
 #![tactic(auto)]
+
 ghost use Rattle.std.specs.Prelude.{◌≤◌, length};
 ghost use Rattle.board.specs.Record.{shown, laid};
 ghost use Rattle.board.specs.Inner.{Sound};

@@ -1,5 +1,6 @@
 // The run: the root, then a node taken at each turn (after freecell/solver.rs, the loop over the frontier, changed: NOTICE).
 #![tactic(auto)]
+
 ghost use Rattle.std.specs.Prelude.{◌≡◌, ◌<◌, ◌≤◌};
 ghost use Rattle.board.specs.Record.{shown};
 ghost use Rattle.board.specs.Inner.{Sound};

@@ -2,7 +2,6 @@
 use native.Mathlib.Omega.{arith}
 use Rattle.memory.proofs.Within.{spare_entry}
 use Rattle.children.proofs.Growth.{bear_ready, bear_total, bear_deep, bear_known, bear_full, birth_of, bear_born}
-use borrow.Author.Rules.{rules}
 use Rattle.children.proofs.bear.Goals as goal
 
 pub child_to-made-requires : goal.child_to-made-requires

@@ -2,7 +2,6 @@
 use native.Mathlib.Omega.{arith}
 use Rattle.children.proofs.Hoping.{board_bounded, hope_fits}
 use Rattle.children.proofs.Births.{birth_sum, wrote, counts_on, birth_words, birth_number, birth_heap, birth_slot}
-use borrow.Author.Rules.{rules}
 use Rattle.children.proofs.birth.Goals as goal
 
 pub compute_features-f-requires : goal.compute_features-f-requires

@@ -2,7 +2,6 @@
 use mathlib.Core.Path.{◌∙◌}
 use Rattle.costs.proofs.Counting.{used-room}
 use Rattle.children.proofs.Choices.{held-within, held_is_used, drops, lowers, enters}
-use borrow.Author.Rules.{rules}
 use Rattle.children.proofs.choose.Goals as goal
 
 pub find-requires : goal.find-requires

@@ -1,6 +1,5 @@
 -- What `count_birth` leaves to be shown: whether the best moves.
 use Rattle.children.proofs.Births.{counted_higher, counted_as_good}
-use borrow.Author.Rules.{rules}
 use Rattle.children.proofs.count_birth.Goals as goal
 
 pub returns-then-c-progress : goal.returns-then-c-progress

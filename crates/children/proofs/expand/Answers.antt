@@ -3,7 +3,6 @@ use native.Mathlib.Omega.{arith}
 use Rattle.board.specs.Record.{shown}
 use Rattle.candidates.proofs.Trying.{all-candidates, most_candidates}
 use Rattle.candidates.proofs.Listing.{holds-written, moves_written}
-use borrow.Author.Rules.{rules}
 use Rattle.board.proofs.Fair.{shows_fair}
 use Rattle.children.proofs.expand.Goals as goal
 

@@ -3,7 +3,6 @@ use native.Mathlib.Omega.{arith}
 use Rattle.board.specs.Record.{shown}
 use Rattle.nodes.specs.Line.{line_to}
 use Rattle.finish.proofs.Handing.{best_comes, best_is_root, best_unasked, gives_line, gives_nothing}
-use borrow.Author.Rules.{rules}
 use Rattle.finish.proofs.best_line.Goals as goal
 
 pub with_line-requires : goal.with_line-requires

@@ -1,5 +1,4 @@
 -- What `best_said` leaves to be shown: the last board of the best line is asked.
-use borrow.Author.Rules.{rules}
 use Rattle.finish.proofs.Handing.{said_finished, said_unfinished}
 use Rattle.finish.proofs.best_said.Goals as goal
 

@@ -3,7 +3,6 @@ use mathlib.Core.List.{[]}
 use Rattle.board.specs.Record.{shown}
 use Rattle.finish.specs.declared.Said.TheVariants.{OutOfNodes}
 use Rattle.finish.proofs.Handing.{gives_none, closed_won, closed_limit, closed_exhausted, gives_by}
-use borrow.Author.Rules.{rules}
 use Rattle.finish.proofs.finish.Goals as goal
 
 pub with_line-requires : goal.with_line-requires

@@ -4,7 +4,6 @@ use lib.Dec.{eqb}
 use Rattle.board.specs.Record.{shown}
 use Rattle.nodes.specs.Line.{line_to}
 use Rattle.finish.specs.declared.Said.TheVariants.{Limit}
-use borrow.Author.Rules.{rules}
 use Rattle.finish.proofs.Handing.{gives_called}
 use Rattle.finish.proofs.limit_line.Goals as goal
 

@@ -1,7 +1,6 @@
 -- What `number` leaves to be shown: a refusal's number.
 use mathlib.Core.Path.{sym, ap, ◌∙◌}
 use Rattle.finish.specs.Said.{said_number}
-use borrow.Author.Rules.{rules}
 use Rattle.finish.proofs.number.Goals as goal
 
 pub returns-in-Refused : goal.returns-in-Refused

@@ -1,10 +1,6 @@
 -- What `write_chain` leaves to be shown: the moves passed are written and played, then what is left of the chain.
-use mathlib.Core.Path.{sym, ◌∙◌}
 use Prim.Native.Nat.{◌-◌}
-use native.Mathlib.Omega.{arith}
-use Rattle.safe.proofs.Handing.{chain_ready}
-use Rattle.lines.proofs.Telling.{Going, going_start, going_long, going_room, going_turn, going_stop, going_full}
-use borrow.Author.Rules.{rules}
+use Rattle.lines.proofs.Telling.{Going}
 use Rattle.lines.proofs.write_chain.Given as goal
 
 abbrev pub invariant-loop-moves : goal.invariant-loop-moves

@@ -1,8 +1,5 @@
 -- What `write_down` leaves to be shown: the steps from a place of the path on are made and written.
-use native.Mathlib.Omega.{arith}
-use Rattle.nodes.proofs.Walking.{descend_there, descend_makes}
-use Rattle.lines.proofs.Telling.{Telling, telling_start, telling_long, telling_room, telling_turn, telling_end}
-use borrow.Author.Rules.{rules}
+use Rattle.lines.proofs.Telling.{Telling}
 use Rattle.lines.proofs.write_down.Given as goal
 
 abbrev pub invariant-loop-left : goal.invariant-loop-left

@@ -2,7 +2,6 @@
 use Rattle.nodes.proofs.Reaching.{node_steps, node_costs, node_few}
 use Rattle.nodes.proofs.Walking.{path_leads}
 use Rattle.lines.proofs.Telling.{node_room, node_line}
-use borrow.Author.Rules.{rules}
 use Rattle.lines.proofs.write_line.Goals as goal
 
 pub climb-deep-requires : goal.climb-deep-requires

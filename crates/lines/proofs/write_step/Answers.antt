@@ -2,7 +2,6 @@
 use Rattle.nodes.proofs.Walking.{step_is, step_never, step_goes}
 use Rattle.candidates.proofs.Bearing.{next_sound}
 use Rattle.lines.proofs.Telling.{first-room, rest_room, step_writes}
-use borrow.Author.Rules.{rules}
 use Rattle.lines.proofs.write_step.Goals as goal
 
 pub returns-in_default : goal.returns-in_default

@@ -1,7 +1,6 @@
 -- What `candidates_at` leaves to be shown: what is tried is ranked, and copied in that order.
 use native.Mathlib.Omega.{arith}
 use Rattle.ordered.proofs.Ordering.{few_tried, holds-tried, names_tried, adds_candidates}
-use borrow.Author.Rules.{rules}
 use Rattle.ordered.proofs.candidates_at.Goals as goal
 
 pub compute_features-before-requires : goal.compute_features-before-requires

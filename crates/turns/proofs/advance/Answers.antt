@@ -2,7 +2,6 @@
 use mathlib.Core.Path.{◌∙◌}
 use Rattle.memory.proofs.Within.{waiting_there}
 use Rattle.turns.proofs.Taken.{number_there, entry_within, entry_in_use, skips, stood, visited}
-use borrow.Author.Rules.{rules}
 use Rattle.turns.proofs.advance.Goals as goal
 
 pub take_least-key-requires : goal.take_least-key-requires

@@ -1,7 +1,6 @@
 -- What `ended` leaves to be shown: each way that a turn ends.
 use mathlib.Core.Path.{sym, ap}
 use Rattle.turns.specs.Inner.{ended_by}
-use borrow.Author.Rules.{rules}
 use Rattle.turns.proofs.ended.Goals as goal
 
 pub returns-in-Again : goal.returns-in-Again

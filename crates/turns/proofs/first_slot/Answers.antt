@@ -1,6 +1,5 @@
 -- What `first_slot` leaves to be shown: an empty table has an entry free for any key.
 use Rattle.children.proofs.Choices.{empty_table, never_there, never_full}
-use borrow.Author.Rules.{rules}
 use Rattle.turns.proofs.first_slot.Goals as goal
 
 pub find-requires : goal.find-requires

@@ -1,8 +1,5 @@
 -- What `go` leaves to be shown: turn after turn, until something ends the run.
-use mathlib.Core.Path.{◌∙◌}
-use native.Mathlib.Omega.{arith}
-use Rattle.turns.proofs.Going.{Going, going_start, going_pops, going_limit, going_exhausted, going_turn, going_over}
-use borrow.Author.Rules.{rules}
+use Rattle.turns.proofs.Going.{Going}
 use Rattle.memory.specs.Memory.{lent}
 use Rattle.turns.proofs.go.Given as goal
 

@@ -4,7 +4,6 @@ use Rattle.memory.proofs.Starting.{blank_table}
 use Rattle.frontier.proofs.Order.{heap_none}
 use Rattle.children.proofs.Hoping.{board_bounded, hope_fits}
 use Rattle.turns.proofs.Seeding.{blank_empty, seed_words, seed_heap, seed_slot, seeded}
-use borrow.Author.Rules.{rules}
 use Rattle.turns.proofs.seed.Goals as goal
 
 pub compute_features-f-requires : goal.compute_features-f-requires

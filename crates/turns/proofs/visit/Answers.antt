@@ -1,6 +1,5 @@
 -- What `visit` leaves to be shown: a node is won, too deep or expanded.
 use Rattle.turns.proofs.Turning.{stands, visit_won, visit_deep, visit_full, visit_grown, full_expands, grown_expands}
-use borrow.Author.Rules.{rules}
 use Rattle.turns.proofs.visit.Goals as goal
 
 pub board_of-b-requires : goal.board_of-b-requires

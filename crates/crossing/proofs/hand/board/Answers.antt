@@ -1,6 +1,5 @@
 -- What `board` leaves to be shown: a refusal, too little room, or the board.
 use Rattle.crossing.proofs.Handing.{hands_no, hands_short, hands_yes}
-use borrow.Author.Rules.{rules}
 use Rattle.crossing.proofs.hand.board.Goals as goal
 
 pub returns-in-Refused : goal.returns-in-Refused

@@ -2,7 +2,6 @@
 use lib.ListN.{length-set}
 use native.Mathlib.Omega.{arith}
 use Rattle.crossing.proofs.Telling.{seven_put}
-use borrow.Author.Rules.{rules}
 use Rattle.crossing.proofs.hand.features.Goals as goal
 
 pub bounds-room-1 : goal.bounds-room-1

@@ -1,7 +1,6 @@
 -- What `line` leaves to be shown: too little room, or the board and the number of moves.
 use Rattle.board.specs.Refusal.{examined_told}
 use Rattle.crossing.proofs.Handing.{line_short, line_yes}
-use borrow.Author.Rules.{rules}
 use Rattle.crossing.proofs.hand.line.Goals as goal
 
 pub returns-then-room-lt-BYTES : goal.returns-then-room-lt-BYTES

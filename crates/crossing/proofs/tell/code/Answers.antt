@@ -3,7 +3,6 @@ use mathlib.Core.Path.{sym, ap, ◌∙◌, subst}
 use Rattle.questions.specs.declared.Top.{Top}
 use Rattle.crossing.specs.Questions.{top_code}
 use Rattle.crossing.specs.Inner.{Coded}
-use borrow.Author.Rules.{rules}
 use Rattle.crossing.proofs.tell.code.Goals as goal
 
 pub code_of-requires : goal.code_of-requires

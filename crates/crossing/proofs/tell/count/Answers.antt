@@ -2,7 +2,6 @@
 use mathlib.Core.Path.{ap}
 use Rattle.questions.specs.Told.{count_told}
 use Rattle.crossing.proofs.Telling.{value_no}
-use borrow.Author.Rules.{rules}
 use Rattle.crossing.proofs.tell.count.Goals as goal
 
 pub returns-in-Refused : goal.returns-in-Refused

@@ -4,7 +4,6 @@ use Rattle.sense.specs.Outcome.{line_told}
 use Rattle.sense.specs.declared.LineAnswer.{LineAnswer}
 use Rattle.crossing.specs.Papers.{count_left}
 use Rattle.crossing.proofs.Papering.{line_no, line_at}
-use borrow.Author.Rules.{rules}
 use Rattle.crossing.proofs.tell.line.Goals as goal
 
 pub returns-in-Count : goal.returns-in-Count

@@ -2,7 +2,6 @@
 use mathlib.Core.Path.{ap}
 use Rattle.signature.specs.Signed.{signature_told}
 use Rattle.crossing.proofs.Telling.{value_no}
-use borrow.Author.Rules.{rules}
 use Rattle.crossing.proofs.tell.signature.Goals as goal
 
 pub returns-in-Refused : goal.returns-in-Refused

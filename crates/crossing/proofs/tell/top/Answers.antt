@@ -1,14 +1,11 @@
 -- What `top` leaves to be shown: the code behind the pointer, or the refusal alone.
 use mathlib.Core.Path.{sym, ap, ◌∙◌, subst}
 use Prim.Native.Nat.{ℕ}
-use Rattle.base.specs.Answer.{Answer}
 use Rattle.questions.specs.Told.{top_told}
-use Rattle.questions.specs.declared.Top.{Top}
 use Rattle.questions.specs.declared.TopAnswer.{TopAnswer}
 use Rattle.crossing.specs.Crossing.{left}
 use Rattle.crossing.specs.Questions.{code_left}
 use Rattle.crossing.specs.Inner.{CodedAnswer}
-use borrow.Author.Rules.{rules}
 use Rattle.crossing.proofs.tell.top.Goals as goal
 
 pub code-requires : goal.code-requires

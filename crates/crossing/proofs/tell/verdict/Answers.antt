@@ -3,7 +3,6 @@ use mathlib.Core.Path.{sym, ap, ◌∙◌}
 use Rattle.board.specs.Refusal.{examined_told}
 use Rattle.crossing.specs.Crossing.{told}
 use Rattle.board.specs.declared.Examined.{Examined}
-use borrow.Author.Rules.{rules}
 use Rattle.crossing.proofs.tell.verdict.Goals as goal
 
 pub returns-in-Refused : goal.returns-in-Refused

@@ -5,7 +5,6 @@ use Rattle.questions.specs.Told.{won_told}
 use Rattle.questions.specs.declared.WonAnswer.{WonAnswer}
 use Rattle.crossing.specs.Crossing.{left}
 use Rattle.crossing.specs.Questions.{yes_left}
-use borrow.Author.Rules.{rules}
 use Rattle.crossing.proofs.tell.won.Goals as goal
 
 pub returns-in-Won : goal.returns-in-Won

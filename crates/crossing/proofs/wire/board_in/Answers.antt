@@ -1,7 +1,6 @@
 -- What `board_in` leaves to be shown: each part is written from end to end.
 use mathlib.Core.Path.{refl}
 use Rattle.crossing.proofs.Wiring.{board_read}
-use borrow.Author.Rules.{rules}
 use Rattle.crossing.proofs.wire.board_in.Goals as goal
 
 pub returns : goal.returns
