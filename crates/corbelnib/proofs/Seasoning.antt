@@ -10,7 +10,7 @@ use Rattle.sheets.specs.Adding.{add_asked}
 use Rattle.sheets.specs.Promises.{said_of, left_of, Adds}
 use Rattle.season.specs.Season.{Lent, filled, left_by, season_in}
 use Rattle.season.specs.Inner.{Leaves}
-use Rattle.crossing.specs.Crossing.{Left, left, told, crossed}
+use Rattle.crossing.specs.Crossing.{left, told, crossed}
 use Rattle.crossing.specs.Values.{value_left}
 use Rattle.crossing.specs.Numbers.{flag}
 use Rattle.corbelnib.specs.Season.{season_left, add_left}

@@ -1,6 +1,7 @@
 // The judge for a controller program in C: numbers and lent memory alone. A board is 432 bytes (src/wire.rt); 0 is done, any
 // other number SCOPE.md's. A refusal changes nothing lent, but for a bad move in a replay. C calls it by crates/corbelnib_c.
 #![tactic(auto)]
+
 ghost use Rattle.std.specs.Prelude.{◌≡◌};
 ghost use Rattle.crossing.specs.Crossing.{left};
 ghost use Rattle.season.specs.Season.{lent_of};

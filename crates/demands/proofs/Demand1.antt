@@ -1,13 +1,13 @@
 -- Demand 1 holds.
 use mathlib.Core.Path.{◌≡◌, refl, sym, ap, ap₂, ◌∙◌, subst}
-use mathlib.Core.Bool.{Bool, true, false, ◌||◌, or-true}
+use mathlib.Core.Bool.{Bool, true, ◌||◌, or-true}
 use mathlib.Core.List.{List, [], ◌∷◌, ◌++◌}
 use Prim.Native.Nat.{ℕ}
 use lib.Dec.{eqb, ltb}
 use lib.ListN.{length, get_or, drop}
-use Rattle.base.specs.Answer.{Answer, given, refused, unless}
+use Rattle.base.specs.Answer.{given, refused, unless}
 use Rattle.base.specs.Words.{all}
-use Rattle.board.specs.Verdict.{Verdict, fine, after}
+use Rattle.board.specs.Verdict.{Verdict, after}
 use Rattle.board.specs.Record.{examined, shown, board_of}
 use Rattle.board.specs.declared.Board.{Board}
 use Rattle.shuffle.specs.Shuffle.{deck_of}
@@ -35,15 +35,15 @@ use Rattle.candidates.specs.Candidates.{candidates as tried}
 use Rattle.search.specs.Claims.{brings_list}
 use Rattle.solver.proofs.Calls.{answer_clears, T1_none}
 use Rattle.crossing.specs.Wire.{board_room, board_in}
-use Rattle.crossing.specs.Crossing.{Left, left, told, asked}
+use Rattle.crossing.specs.Crossing.{left, told, asked}
 use Rattle.crossing.specs.Boards.{board_left, read_left, deal_left, number_left, move_left, line_left, replay_left, chained, chain_left}
 use Rattle.crossing.specs.Lists.{list_left, candidates_left, way_asked, found_by, moves_left, text_left, token_left}
 use Rattle.crossing.specs.Values.{feature_room, signature_left, priority_left, scores_left, numbers_left, features_left}
 use Rattle.crossing.specs.Questions.{top_left, cell_left, home_left, most_left, won_left, safe_left}
 use Rattle.crossing.specs.Numbers.{is_answer}
 use Rattle.corbelnib.specs.Calls.{Entry, examine, read, deal, number, move, replay, chain, moves, candidates, token, priority, scores, signature, features, capacity, judge, read_line, write_line, season, add, top, cell, home, most, won, safe, version, In, Places, Call, promise}
-use Rattle.demands.specs.Orders.{first_failing, boards, is_kind, one_move, table_of, order}
-use Rattle.demands.specs.Demand1.{boundary, is_in, of_moves, hands, Tells, place_of, Cleared, Demand1}
+use Rattle.demands.specs.Orders.{boards, table_of, order}
+use Rattle.demands.specs.Demand1.{boundary, is_in, of_moves, hands, place_of, Cleared, Demand1}
 use Rattle.demands.proofs.Refusing.{Refuses}
 use Rattle.demands.proofs.Ordering.{boards_good, good_boards, board_first_lem, By, untested, tested, roomed, asked_by, Held, crosses, Ruled, Bare, call_numbered, call_examines, call_keeps}
 use Rattle.demands.proofs.Rows.{image_by, deck_by, step_by, priority_by_lem, way_at, way_by}

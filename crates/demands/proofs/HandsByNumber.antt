@@ -7,7 +7,7 @@ use native.Mathlib.Omega.{arith}
 use native.Mathlib.Decide.{dec_le}
 use lib.Dec.{eqb}
 use lib.ListN.{length, take}
-use Rattle.base.specs.Answer.{Answer, given}
+use Rattle.base.specs.Answer.{Answer}
 use Rattle.base.specs.Put.{over}
 use Rattle.base.proofs.Answers.{given_by}
 use Rattle.board.specs.Record.{board_of}

@@ -2,7 +2,7 @@
 use mathlib.Core.Path.{◌≡◌, refl, sym, ap, ◌∙◌}
 use mathlib.Core.Bool.{true}
 use mathlib.Core.List.{List}
-use Prim.Native.Nat.{ℕ, ◌<◌, ◌≤◌}
+use Prim.Native.Nat.{ℕ}
 use borrow.Author.Tests.{leb-true}
 use lib.Dec.{eqb, leb}
 use lib.ListN.{length, take, drop}
@@ -15,14 +15,14 @@ use Rattle.board.specs.Verdict.{fine}
 use Rattle.intake.specs.Number.{is_number}
 use Rattle.solver.specs.Searched.{most_pops}
 use Rattle.sheets.specs.Figures.{sheet_room}
-use Rattle.sheets.specs.Over.{Settings, sheet_over, between}
+use Rattle.sheets.specs.Over.{sheet_over, between}
 use Rattle.sheets.specs.Good.{good_sheet}
 use Rattle.sheets.specs.Adding.{same_settings, apart, added, add_asked}
 use Rattle.sheets.proofs.Goodness.{good_is}
 use Rattle.season.specs.Season.{Lent, filled, result_of, season_asked, season_in}
-use Rattle.season.proofs.Accepting.{all_given, no_first, no_last, over_budget, no_sheet, no_node}
+use Rattle.season.proofs.Accepting.{all_given}
 use Rattle.season.proofs.Seasons.{season_good}
-use Rattle.crossing.specs.Crossing.{Left, left, told, crossed}
+use Rattle.crossing.specs.Crossing.{Left, left, crossed}
 use Rattle.crossing.specs.Values.{value_left}
 use Rattle.crossing.specs.Numbers.{flag}
 use Rattle.corbelnib.specs.Season.{season_left, add_left}

@@ -1,5 +1,5 @@
 -- Request (vi) holds: sheets over runs of hands, and their sums.
-use mathlib.Core.Path.{◌≡◌, refl, sym, ap, ap₂, ◌∙◌, subst}
+use mathlib.Core.Path.{◌≡◌, refl, sym, ap, ap₂, ◌∙◌}
 use mathlib.Core.Bool.{Bool, true, false, ◌&&◌, ◌||◌}
 use mathlib.Core.List.{List}
 use mathlib.Core.Logic.{◌⊎◌, inl, inr}
@@ -8,23 +8,19 @@ use native.Mathlib.Omega.{arith}
 use lib.ListN.{length}
 use Rattle.base.specs.Answer.{Answer, given, refused}
 use Rattle.base.proofs.Words.{not_so, first_fails, second_fails}
-use Rattle.board.specs.Record.{shown}
-use Rattle.shuffle.specs.Shuffle.{deck_of}
-use Rattle.intake.specs.Deal.{dealt}
 use Rattle.intake.specs.Number.{is_number}
 use Rattle.solver.proofs.Calls.{gives, answered-accepted}
 use Rattle.sheets.specs.declared.Side.{Side}
 use Rattle.sheets.specs.Figures.{told, mark_list, mark_deal}
-use Rattle.sheets.specs.Over.{Settings, Result, between, zero_sheet}
+use Rattle.sheets.specs.Over.{Settings}
 use Rattle.sheets.specs.Good.{covered, wins, good_sheet}
 use Rattle.sheets.specs.Adding.{same_settings, apart, added, add_asked}
 use Rattle.sheets.proofs.Goodness.{good_is, mark_none}
 use Rattle.sheets.proofs.Adding.{sum_good, add_comm, add_assoc, overs_asked}
 use Rattle.season.specs.Season.{result_of, season_asked}
 use Rattle.season.proofs.Answers.{found_result, each-answered}
-use Rattle.season.proofs.Accepting.{no_first, no_last, over_budget, no_sheet, no_node}
+use Rattle.season.proofs.Accepting.{no_first, over_budget, no_sheet, no_node}
 use Rattle.season.proofs.Seasons.{season_good, season_empty, season_covers, season_parts, seasons_agree}
-use Rattle.crossing.specs.Crossing.{Left, left}
 use Rattle.crossing.specs.Numbers.{flag, is_answer}
 use Rattle.crossing.specs.Wire.{board_in}
 use Rattle.corbelnib.specs.Calls.{number, judge, season, add, Call}
@@ -34,7 +30,7 @@ use Rattle.demands.specs.SeasonsFigures.{sheet_by, settings, run_of, figures, se
 use Rattle.demands.proofs.Searching.{searching, same_number, answered}
 use Rattle.demands.proofs.HandsByNumber.{is_number_lem, enough, hands_by_number}
 use Rattle.demands.proofs.BadSheet.{good_not_bad, not_bad_good, not_good_bad}
-use Rattle.demands.proofs.Seasons.{refused_with_lem, run_done, run_sheet, done_good, done_asked, sum_by, no_sum, a_sum, sum-asked}
+use Rattle.demands.proofs.Seasons.{refused_with_lem, run_done, run_sheet, done_asked, no_sum, a_sum, sum-asked}
 
 -- ---- one deal
 

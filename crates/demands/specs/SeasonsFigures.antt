@@ -4,7 +4,7 @@ use Rattle.intake.specs.Number.{is_number}
 use Rattle.solver.specs.Searched.{most_pops}
 use Rattle.sheets.specs.declared.Side.{Side}
 use Rattle.sheets.specs.Figures.{sheet_room, last_deal, told, mark_list, mark_deal}
-use Rattle.sheets.specs.Over.{Settings, Result, sheet_over, between, zero_sheet}
+use Rattle.sheets.specs.Over.{Settings, sheet_over, between, zero_sheet}
 use Rattle.sheets.specs.Good.{covered, wins}
 use Rattle.sheets.specs.Adding.{same_settings, apart}
 use Rattle.season.specs.Season.{result_of}

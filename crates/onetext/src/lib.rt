@@ -1,5 +1,6 @@
 // The whole text of the program `oneboard`, written into lent room.
 #![tactic(auto)]
+
 ghost use Rattle.std.specs.Prelude.{◌≡◌, false, ◌+◌, ◌*◌, ◌≤◌, length};
 ghost use Rattle.board.specs.Record.{shown};
 ghost use Rattle.intake.proofs.Accepted.{Fine};

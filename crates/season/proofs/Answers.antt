@@ -1,12 +1,11 @@
 -- What every deal gives: an answer that is counted, pops within the budget, a list of at most 200 moves; and what the code finds is that.
 use mathlib.Core.Path.{◌≡◌, refl, sym, ap, ◌∙◌, subst}
-use mathlib.Core.Bool.{Bool, true}
-use mathlib.Core.List.{List, []}
+use mathlib.Core.Bool.{true}
+use mathlib.Core.List.{List}
 use mathlib.Core.Logic.{inl, inr}
-use Prim.Native.Nat.{ℕ, zero, suc, ◌<◌, ◌≤◌}
+use Prim.Native.Nat.{ℕ, zero, suc, ◌≤◌}
 use native.Mathlib.Omega.{arith}
 use lib.ListN.{length}
-use Rattle.base.specs.Answer.{Answer}
 use Rattle.base.specs.Words.{occurs}
 use Rattle.shuffle.specs.Shuffle.{deck_of}
 use Rattle.board.specs.Table.{Table}
@@ -31,7 +30,7 @@ use Rattle.finish.specs.Inner.{Gives}
 use Rattle.finish.specs.declared.Judged.{Judged}
 use Rattle.solver.proofs.Calls.{judge_answer}
 use Rattle.sheets.specs.Figures.{answers_counted}
-use Rattle.sheets.specs.Over.{Settings, Result}
+use Rattle.sheets.specs.Over.{Settings}
 use Rattle.sheets.proofs.Goodness.{Answered}
 use Rattle.season.specs.Season.{result_by, result_of}
 

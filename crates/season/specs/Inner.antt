@@ -1,6 +1,5 @@
 -- What the functions ask and promise, a record each.
 use Rattle.std.specs.Prelude.{◌≡◌, Bool, List, ℕ, ◌≤◌}
-use Rattle.base.specs.Answer.{Answer}
 use Rattle.board.specs.Refusal.{examined_told}
 use Rattle.board.specs.declared.Examined.{Examined}
 use Rattle.board.specs.declared.Examined.TheVariants.{WellFormed}

@@ -1,5 +1,6 @@
 // The season's figures: the hands of a run of numbers, judged in rising order, on one sheet.
 #![tactic(auto)]
+
 ghost use Rattle.std.specs.Prelude.{◌≡◌, not, length};
 ghost use Rattle.intake.specs.Number.{is_number};
 ghost use Rattle.memory.specs.Memory.{lent};

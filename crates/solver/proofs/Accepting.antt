@@ -9,7 +9,7 @@ use borrow.Author.Tests.{le-leb, lt-leb}
 use lib.Dec.{leb}
 use lib.ListN.{length}
 use Rattle.base.specs.Answer.{refused, unless}
-use Rattle.board.specs.Verdict.{Verdict, fine, after}
+use Rattle.board.specs.Verdict.{Verdict, fine}
 use Rattle.board.specs.Record.{examined, shown}
 use Rattle.board.specs.Inner.{Sound}
 use Rattle.board.specs.Refusal.{number_of, examined_told}

@@ -1,5 +1,6 @@
 // The search in lent memory, from the refusals to the answer (after freecell/solver.rs, `solve_with_stats`, changed: NOTICE).
 #![tactic(auto)]
+
 ghost use Rattle.std.specs.Prelude.{◌≡◌, min, ◌≤◌, length};
 ghost use Rattle.board.specs.Record.{shown};
 ghost use Rattle.board.specs.Inner.{Sound};

@@ -1,6 +1,5 @@
 -- What `corbelnib_add` leaves to be shown: what `add` says and leaves.
 use Rattle.corbelnib.proofs.Seasoning.{add_left_lem}
-use borrow.Author.Rules.{rules}
 use Rattle.corbelnib.proofs.corbelnib_add.Goals as goal
 
 pub returns : goal.returns

@@ -7,7 +7,6 @@ use Rattle.candidates.specs.Candidates.{candidates}
 use Rattle.crossing.specs.Lists.{list_left, candidates_left}
 use Rattle.crossing.proofs.Crossing.{no_board, a_board}
 use Rattle.crossing.proofs.Listing.{list_left_lem}
-use borrow.Author.Rules.{rules}
 use Rattle.corbelnib.proofs.corbelnib_candidates.Goals as goal
 
 pub returns-then-board-ne-BYTES : goal.returns-then-board-ne-BYTES

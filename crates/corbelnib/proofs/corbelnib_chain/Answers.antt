@@ -10,7 +10,6 @@ use Rattle.crossing.specs.Crossing.{left}
 use Rattle.crossing.specs.Boards.{line_left, chained, chain_left}
 use Rattle.crossing.proofs.Crossing.{no_board, a_board}
 use Rattle.crossing.proofs.Handing.{chain_no, chain_yes}
-use borrow.Author.Rules.{rules}
 use Rattle.corbelnib.proofs.corbelnib_chain.Goals as goal
 
 pub returns-then-board-ne-BYTES : goal.returns-then-board-ne-BYTES

@@ -3,7 +3,6 @@ use mathlib.Core.Path.{ap, ◌∙◌}
 use Rattle.board.specs.Record.{examined}
 use Rattle.crossing.specs.Crossing.{told}
 use Rattle.crossing.proofs.Crossing.{no_board, a_board}
-use borrow.Author.Rules.{rules}
 use Rattle.corbelnib.proofs.corbelnib_examine.Goals as goal
 
 pub returns-then-board-ne-BYTES : goal.returns-then-board-ne-BYTES

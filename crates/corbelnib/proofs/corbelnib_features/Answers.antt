@@ -8,7 +8,6 @@ use Rattle.crossing.specs.Crossing.{left}
 use Rattle.crossing.specs.Values.{numbers_left, features_left}
 use Rattle.crossing.proofs.Crossing.{no_board, a_board}
 use Rattle.crossing.proofs.Telling.{numbers_short, numbers_yes}
-use borrow.Author.Rules.{rules}
 use Rattle.corbelnib.proofs.corbelnib_features.Goals as goal
 
 pub returns-then-board-ne-BYTES : goal.returns-then-board-ne-BYTES

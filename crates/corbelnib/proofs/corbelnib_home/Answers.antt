@@ -6,7 +6,6 @@ use Rattle.questions.specs.Questions.{foundation_asked}
 use Rattle.crossing.specs.Values.{value_left}
 use Rattle.crossing.specs.Questions.{home_left}
 use Rattle.crossing.proofs.Crossing.{no_board, a_board}
-use borrow.Author.Rules.{rules}
 use Rattle.corbelnib.proofs.corbelnib_home.Goals as goal
 
 pub returns-then-board-ne-BYTES : goal.returns-then-board-ne-BYTES

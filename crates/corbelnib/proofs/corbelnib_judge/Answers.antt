@@ -2,7 +2,6 @@
 use mathlib.Core.Path.{refl, ap}
 use Rattle.corbelnib.specs.Calls.{search_left}
 use Rattle.corbelnib.proofs.Judging.{judge_none, judge_answers, judge_refuses}
-use borrow.Author.Rules.{rules}
 use Rattle.corbelnib.proofs.corbelnib_judge.Goals as goal
 
 pub returns-then-board-ne-BYTES : goal.returns-then-board-ne-BYTES

@@ -2,7 +2,7 @@
 use mathlib.Core.Path.{sym, ap, ◌∙◌}
 use Prim.Native.Nat.{ℕ}
 use mathlib.Core.List.{List}
-use Rattle.base.specs.Answer.{Answer, given}
+use Rattle.base.specs.Answer.{Answer}
 use Rattle.board.specs.Verdict.{after}
 use Rattle.board.specs.Record.{examined, shown}
 use Rattle.moves.specs.declared.Move.{Move}
@@ -12,7 +12,6 @@ use Rattle.crossing.specs.Crossing.{left}
 use Rattle.crossing.specs.Lists.{list_left, way_asked, way_told, found_by, moves_left}
 use Rattle.crossing.proofs.Crossing.{no_board, a_board}
 use Rattle.crossing.proofs.Listing.{list_left_lem}
-use borrow.Author.Rules.{rules}
 use Rattle.corbelnib.proofs.corbelnib_moves.Goals as goal
 
 pub returns-then-board-ne-BYTES : goal.returns-then-board-ne-BYTES

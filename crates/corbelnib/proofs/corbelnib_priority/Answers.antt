@@ -5,7 +5,6 @@ use Rattle.base.specs.Answer.{Answer}
 use Rattle.priority.specs.Asked.{priority_asked}
 use Rattle.crossing.specs.Values.{value_left, priority_left}
 use Rattle.crossing.proofs.Crossing.{no_board, a_board}
-use borrow.Author.Rules.{rules}
 use Rattle.corbelnib.proofs.corbelnib_priority.Goals as goal
 
 pub returns-then-board-ne-BYTES : goal.returns-then-board-ne-BYTES

@@ -3,7 +3,6 @@ use mathlib.Core.Path.{ap, ◌∙◌}
 use Rattle.base.specs.Answer.{Answer}
 use Rattle.board.specs.declared.Board.{Board}
 use Rattle.crossing.specs.Boards.{board_left, read_left}
-use borrow.Author.Rules.{rules}
 use Rattle.corbelnib.proofs.corbelnib_read.Goals as goal
 
 pub returns : goal.returns

@@ -4,7 +4,6 @@ use lib.ListN.{length}
 use Rattle.reading.specs.Asked.{read_asked}
 use Rattle.crossing.specs.Papers.{read_by, line_read_left}
 use Rattle.crossing.proofs.Papering.{no_line, a_line, reads_left}
-use borrow.Author.Rules.{rules}
 use Rattle.corbelnib.proofs.corbelnib_read_line.Goals as goal
 
 pub returns-then-board-ne-BYTES : goal.returns-then-board-ne-BYTES

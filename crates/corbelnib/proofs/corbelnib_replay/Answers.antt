@@ -1,5 +1,4 @@
 -- What `corbelnib_replay` leaves to be shown: another length, a refusal, no line, or where the line ended.
-use borrow.Author.Tests.{not-true, not-false}
 use mathlib.Core.Path.{sym, ap, ◌∙◌}
 use Prim.Native.Nat.{ℕ}
 use mathlib.Core.List.{List}

@@ -8,7 +8,6 @@ use Rattle.crossing.specs.Crossing.{left, crossed}
 use Rattle.crossing.specs.Values.{value_left, scores_left}
 use Rattle.crossing.proofs.Crossing.{no_board, a_board}
 use Rattle.crossing.proofs.Telling.{scores_left_lem}
-use borrow.Author.Rules.{rules}
 use Rattle.corbelnib.proofs.corbelnib_scores.Goals as goal
 
 pub returns-then-board-ne-BYTES : goal.returns-then-board-ne-BYTES

@@ -1,6 +1,5 @@
 -- What `corbelnib_season` leaves to be shown: what `season` says and leaves.
 use Rattle.corbelnib.proofs.Seasoning.{season_left_lem}
-use borrow.Author.Rules.{rules}
 use Rattle.corbelnib.proofs.corbelnib_season.Goals as goal
 
 pub returns : goal.returns

@@ -8,7 +8,6 @@ use Rattle.score.specs.Token.{token_of}
 use Rattle.crossing.specs.Lists.{text_left, token_left}
 use Rattle.crossing.proofs.Crossing.{no_board, a_board}
 use Rattle.crossing.proofs.Listing.{text-left}
-use borrow.Author.Rules.{rules}
 use Rattle.corbelnib.proofs.corbelnib_token.Goals as goal
 
 pub returns-then-board-ne-BYTES : goal.returns-then-board-ne-BYTES

@@ -5,7 +5,6 @@ use Rattle.base.specs.Answer.{Answer}
 use Rattle.questions.specs.Questions.{won_asked}
 use Rattle.crossing.specs.Questions.{yes_left, won_left}
 use Rattle.crossing.proofs.Crossing.{no_board, a_board}
-use borrow.Author.Rules.{rules}
 use Rattle.corbelnib.proofs.corbelnib_won.Goals as goal
 
 pub returns-then-board-ne-BYTES : goal.returns-then-board-ne-BYTES

@@ -4,7 +4,6 @@ use lib.ListN.{length}
 use Rattle.writing.specs.Asked.{write_asked}
 use Rattle.crossing.specs.Papers.{written_by, line_written_left}
 use Rattle.crossing.proofs.Papering.{no_line, a_line, writes_left}
-use borrow.Author.Rules.{rules}
 use Rattle.corbelnib.proofs.corbelnib_write_line.Goals as goal
 
 pub returns-then-board-ne-BYTES : goal.returns-then-board-ne-BYTES

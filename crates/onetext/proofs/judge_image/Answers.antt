@@ -5,7 +5,6 @@ use Prim.Native.Nat.{ℕ}
 use native.Mathlib.Omega.{arith}
 use Rattle.onetext.specs.Text.{line}
 use Rattle.onetext.proofs.Telling.{tells_short, tells_put, text_long, text_refused, text_given, read_board}
-use borrow.Author.Rules.{rules}
 use Rattle.onetext.proofs.judge_image.Goals as goal
 
 pub returns-then-out-lt4096 : goal.returns-then-out-lt4096

@@ -2,7 +2,6 @@
 use mathlib.Core.Path.{refl}
 use native.Mathlib.Omega.{arith}
 use Rattle.onetext.proofs.Gaining.{gained, pops_100, moves_200, answer_puts}
-use borrow.Author.Rules.{rules}
 use Rattle.onetext.proofs.put_answer.Goals as goal
 
 pub overflow_cast-pops : goal.overflow_cast-pops

@@ -3,7 +3,6 @@ use mathlib.Core.Path.{refl}
 use native.Mathlib.Omega.{arith}
 use Rattle.intake.proofs.Accepted.{fine_sound}
 use Rattle.onetext.proofs.Telling.{small, short, first-room, next_room, hand_puts}
-use borrow.Author.Rules.{rules}
 use Rattle.onetext.proofs.put_hand.Goals as goal
 
 pub compute_features-f-requires : goal.compute_features-f-requires

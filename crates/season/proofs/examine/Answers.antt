@@ -2,7 +2,6 @@
 use native.Mathlib.Omega.{arith}
 use Rattle.board.specs.declared.Refusal.TheVariants.{NoNumber, OverBudget, LittleRoom, NoNode}
 use Rattle.season.proofs.Accepting.{is_none, is_one, no_first, no_last, over_budget, no_sheet, no_node, accepts_no, accepts_yes}
-use borrow.Author.Rules.{rules}
 use Rattle.season.proofs.examine.Goals as goal
 
 pub returns-then-no_number : goal.returns-then-no_number

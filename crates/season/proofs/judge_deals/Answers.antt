@@ -1,10 +1,8 @@
 -- What `judge_deals` leaves to be shown: the sheet over the deals so far, one deal after the other.
 use mathlib.Core.Path.{sym, ◌∙◌}
-use Prim.Native.Nat.{◌-◌}
 use native.Mathlib.Omega.{arith}
-use Rattle.memory.specs.Memory.{lent}
 use Rattle.season.specs.Inner.{settings_of}
-use Rattle.season.proofs.Judging.{Judging, judging_start, judging_playable, judging_enterable, judging_next, judging_long, judging_end}
+use Rattle.season.proofs.Judging.{judging_start, judging_playable, judging_enterable, judging_next, judging_long, judging_end}
 use borrow.Author.Rules.{rules}
 use Rattle.season.proofs.judge_deals.Goals as goal
 

@@ -1,6 +1,5 @@
 -- What `no_number` leaves to be shown.
 use Rattle.season.proofs.Accepting.{none_zero, none_over}
-use borrow.Author.Rules.{rules}
 use Rattle.season.proofs.no_number.Goals as goal
 
 pub returns-then-n-eq0 : goal.returns-then-n-eq0

@@ -1,10 +1,9 @@
 -- What `season` leaves to be shown: a refusal changes nothing; else the sheet stands at the start of its room, and the parts are cleared.
-use mathlib.Core.Path.{sym, ◌∙◌}
+use mathlib.Core.Path.{sym}
 use lib.Seq.{length-take-le}
 use Rattle.solver.proofs.Accepting.{in_numbers, roomy}
 use Rattle.season.specs.Season.{lent_of}
 use Rattle.season.proofs.Leaving.{leaves_refused, leaves_given}
-use borrow.Author.Rules.{rules}
 use Rattle.season.proofs.season.Goals as goal
 
 pub returns-in-Refused : goal.returns-in-Refused

@@ -2,7 +2,6 @@
 use mathlib.Core.Path.{ap, ◌∙◌}
 use Prim.Native.Nat.{min, ◌/◌}
 use Rattle.solver.specs.Capacity.{capacity_of}
-use borrow.Author.Rules.{rules}
 use Rattle.solver.proofs.capacity_of.Goals as goal
 
 pub returns : goal.returns

@@ -2,7 +2,6 @@
 use mathlib.Core.Path.{◌∙◌}
 use native.Mathlib.Omega.{arith}
 use Rattle.solver.proofs.Judging.{roomy_blank, gives_won, gives_run}
-use borrow.Author.Rules.{rules}
 use Rattle.solver.proofs.judge_at.Goals as goal
 
 pub won_at-requires : goal.won_at-requires

@@ -2,7 +2,6 @@
 use mathlib.Core.Path.{ap}
 use Prim.Native.Nat.{ℕ}
 use Rattle.solver.specs.Capacity.{entries_of}
-use borrow.Author.Rules.{rules}
 use Rattle.solver.proofs.room_for.Goals as goal
 
 pub returns : goal.returns

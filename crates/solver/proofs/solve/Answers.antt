@@ -2,7 +2,6 @@
 use mathlib.Core.Path.{sym, ap, ◌∙◌}
 use Rattle.board.specs.Refusal.{examined_told}
 use Rattle.solver.proofs.Accepting.{in_numbers, roomy, outcome_refused, outcome_given, told_here}
-use borrow.Author.Rules.{rules}
 use Rattle.solver.proofs.solve.Goals as goal
 
 pub returns-in-Refused : goal.returns-in-Refused

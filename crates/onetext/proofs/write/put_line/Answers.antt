@@ -2,7 +2,6 @@
 use native.Mathlib.Omega.{arith}
 use Rattle.score.proofs.Digits.{long_three}
 use Rattle.onetext.proofs.Lining.{rest_room, line_puts}
-use borrow.Author.Rules.{rules}
 use Rattle.onetext.proofs.write.put_line.Goals as goal
 
 pub put_number-to-requires : goal.put_number-to-requires

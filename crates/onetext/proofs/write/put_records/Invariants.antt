@@ -1,8 +1,6 @@
 -- What `put_records` leaves to be shown: record after record.
 use Prim.Native.Nat.{◌-◌}
-use native.Mathlib.Omega.{arith}
-use Rattle.onetext.proofs.Lining.{lent_five, Recorded, record_start, recorded_long, record_room_lem, record_on, record_done}
-use borrow.Author.Rules.{rules}
+use Rattle.onetext.proofs.Lining.{Recorded}
 use Rattle.onetext.proofs.write.put_records.Given as goal
 
 abbrev pub invariant-loop-k : goal.invariant-loop-k

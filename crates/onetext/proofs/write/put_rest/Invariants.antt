@@ -1,9 +1,7 @@
 -- What `put_rest` leaves to be shown: number after number, and the newline.
 use Prim.Native.Nat.{◌-◌}
 use lib.ListN.{length}
-use native.Mathlib.Omega.{arith}
-use Rattle.onetext.proofs.Lining.{Lining, rest_start, lining_long, next_room, rest_on, last_room, rest_done}
-use borrow.Author.Rules.{rules}
+use Rattle.onetext.proofs.Lining.{Lining}
 use Rattle.onetext.proofs.write.put_rest.Given as goal
 
 abbrev pub invariant-loop-k : goal.invariant-loop-k
