@@ -1,3 +1,4 @@
+-- The bits fit, and each turn leaves one column fewer.
 use Rattle.std.proofs.Common.{◌≤◌}
 use Rattle.oracle_moves.proofs.answers.columns_for.Given as goal
 

@@ -1,3 +1,4 @@
+-- Each turn goes on to a later record.
 use Rattle.std.proofs.Common.{length, ◌-◌, ◌≤◌}
 use Rattle.oracle_moves.proofs.answers.each_move.Given as goal
 

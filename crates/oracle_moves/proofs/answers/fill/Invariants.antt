@@ -1,3 +1,4 @@
+-- The index stays within the room, which keeps its length.
 use Rattle.std.proofs.Common.{length, ◌-◌, ◌≤◌, ◌≡◌}
 use Rattle.oracle_moves.proofs.answers.fill.Given as goal
 

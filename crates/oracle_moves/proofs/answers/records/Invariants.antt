@@ -1,3 +1,4 @@
+-- The loop ends after n turns.
 use Rattle.std.proofs.Common.{◌-◌, ◌≤◌}
 use Rattle.oracle_moves.proofs.answers.records.Given as goal
 

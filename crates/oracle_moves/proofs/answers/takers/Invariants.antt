@@ -1,3 +1,4 @@
+-- 52 turns.
 use Rattle.std.proofs.Common.{◌-◌, ◌≤◌}
 use Rattle.oracle_moves.proofs.answers.takers.Given as goal
 

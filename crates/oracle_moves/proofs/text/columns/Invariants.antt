@@ -1,3 +1,4 @@
+-- The index stays below the eight columns.
 use Rattle.std.proofs.Common.{◌-◌, ◌≤◌}
 use Rattle.oracle_moves.proofs.text.columns.Given as goal
 

@@ -1,3 +1,4 @@
+-- No more are counted than looked at.
 use Rattle.std.proofs.Common.{length, ◌-◌, ◌≤◌}
 use Rattle.oracle_moves.proofs.text.marked.Given as goal
 

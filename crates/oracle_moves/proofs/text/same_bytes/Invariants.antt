@@ -1,3 +1,4 @@
+-- Each byte is read within the slice.
 use Rattle.std.proofs.Common.{length, ◌-◌, ◌≤◌}
 use Rattle.oracle_moves.proofs.text.same_bytes.Given as goal
 
