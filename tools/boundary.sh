@@ -78,7 +78,8 @@ thin() {
 # The contracts, word for word without brackets: what is lent as it is left, the promise of the entry, what goes in, what is lent as it lay ..
 contracts() { # FILE
     awk '/^pub (extern "C" )?fn corbelnib_/ { name = $0; sub(/.* fn /, "", name); sub(/^pub fn /, "", name); sub(/\(.*/, "", name) }
-        /^    ensures / { print name, $0 }' "$1" |
+        /^fn / { name = "" }
+        name != "" && /^    ensures / { print name, $0 }' "$1" |
         sed 's/ *ensures { / /
             s/ }$//
             s/[(),]/ /g
@@ -113,9 +114,9 @@ promises() { # FILE
         }'
 }
 
-# The numbers of answers and refusals as the header would name them: Refusal::NoCard => 13 is NO_CARD 13.
+# The numbers of answers and refusals as the header would name them: NoCard = 13 in an enum is NO_CARD 13.
 numbers_in_code() {
-    sed -n 's/^ *\(Refusal\|Said\)::\([A-Za-z]*\) => \([0-9]*\),$/\2 \3/p' crates/board/src/lib.rt crates/finish/src/lib.rt |
+    sed -n 's/^ *\([A-Z][A-Za-z]*\) = \([0-9]*\),$/\1 \2/p' crates/board/src/lib.rt crates/finish/src/lib.rt |
         sed 's/\([a-z]\)\([A-Z]\)/\1_\2/g' | tr '[:lower:]' '[:upper:]'
 }
 

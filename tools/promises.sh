@@ -18,7 +18,7 @@ functions() { # PATH FILE
 }
 
 in_code() {
-    for crate in $(sed -n '/^# Programs/q;s/^\([a-z_]*\)[a-z ]*:.*/\1/p' crates.txt) framed magnitude; do
+    for crate in $(sed -n '/^# Programs/q;s/^\([a-z_]*\)[a-z ]*:.*/\1/p' crates.txt) framed; do
         [ -f "crates/$crate/src/lib.rt" ] || continue
         path=$crate::
         [ "$crate" != corbelnib ] || path=

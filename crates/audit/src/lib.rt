@@ -7,74 +7,50 @@ ghost use Rattle.sheets.specs.Figures.{told, lists};
 ghost use Rattle.sheets.specs.Over.{behind};
 ghost use Rattle.sheets.specs.Good.{covered, deals, is_absent, is_best, has_deal, good_mark, good_sheet};
 
-use sheets::Side;
-use sheets::mark::{behind_best, deal_of, list_of};
+use sheets::{LAST_DEAL, LENGTHS, LONGEST_LIST, Mark, Side};
 
 // The sheet covers a deal number.
+#[tactic(auto, unfolding(sheets::specs::Figures::told, sheets::specs::Good::covered))]
 pub fn covered_at(sheet: &[u64], n: usize) -> bool
     requires sheet_len { length sheet.now ≡ 716 }
     requires n_nonzero { (0 < n) × (n ≤ 32000) }
     ensures { result ≡ covered sheet.now n }
 {
     let place = n - 1;
-    let word = place / 64;
-    let rest = place % 64;
-    let bit = rest as u64;
-    let at = sheets::COVERS + word;
-    let above = sheet[at] >> bit;
+    let above = sheet[sheets::COVERS + place / 64] >> (place % 64);
     above % 2 == 1
 }
 
 // How many deals it covers.
-fn count_deals(sheet: &[u64]) -> u64
+fn count_deals(sheet: &[u64]) -> usize
     requires { length sheet.now ≡ 716 }
     ensures { result ≡ deals sheet.now }
 {
-    let mut count: u64 = 0;
-    let mut i = 0;
-    while i < sheets::LAST_DEAL {
-        let n = i + 1;
-        if covered_at(sheet, n) {
-            count += 1;
-        }
-        i = n;
-    }
-    count
+    (1..=LAST_DEAL).filter(|n| covered_at(sheet, *n)).count()
 }
 
 // Some words add up to a total: each is taken from what is left of it, so that no sum can wrap.
-fn adds_up(sheet: &[u64], from: usize, words: usize, total: u64) -> bool
-    requires { from + words ≤ length sheet.now }
-    ensures { result ≡ eqb (sum words (λ k. get_or sheet.now (from + k) 0)) total }
+fn adds_up(words: &[u64], total: u64) -> bool
+    ensures { result ≡ eqb (sum (length words.now) (λ k. get_or words.now k 0)) total }
 {
     let mut left = total;
-    let mut i = 0;
-    while i < words {
-        let at = from + i;
-        let word = sheet[at];
-        if left < word {
+    for word in words {
+        let Some(rest) = left.checked_sub(*word) else {
             return false;
-        }
-        left -= word;
-        i += 1;
+        };
+        left = rest;
     }
     left == 0
 }
 
 // No won list of m moves is better than a list.
+#[tactic(auto, unfolding(sheets::specs::Figures::told))]
 fn no_better(sheet: &[u64], side: Side, list: u64, m: usize) -> bool
     requires sheet_len { length sheet.now ≡ 716 }
     requires list_bound { (list ≤ 200) × (m < 201) }
     ensures { result ≡ (eqb (told sheet.now (lists m)) 0 || leb (behind side list) (behind side m)) }
 {
-    let at = sheets::LISTS + m;
-    if sheet[at] == 0 {
-        return true;
-    }
-    let moves = m as u64;
-    let most = behind_best(side, moves);
-    let mine = behind_best(side, list);
-    mine <= most
+    sheet[sheets::LISTS + m] == 0 || side.behind(list) <= side.behind(m as u64)
 }
 
 // None of any length is.
@@ -83,74 +59,51 @@ fn none_better(sheet: &[u64], side: Side, list: u64) -> bool
     requires list_bound { list ≤ 200 }
     ensures { result ≡ every 201 (λ m. eqb (told sheet.now (lists m)) 0 || leb (behind side list) (behind side m)) }
 {
-    let mut m = 0;
-    while m < sheets::LENGTHS {
-        if !no_better(sheet, side, list, m) {
-            return false;
-        }
-        m += 1;
-    }
-    true
+    (0..LENGTHS).all(|m| no_better(sheet, side, list, m))
 }
 
 // The mark has a won list's length, and none is better.
+#[tactic(auto, unfolding(sheets::specs::Figures::told, sheets::specs::Good::is_best))]
 fn best(sheet: &[u64], side: Side) -> bool
     requires { length sheet.now ≡ 716 }
     ensures { result ≡ is_best side sheet.now }
 {
-    let list = list_of(sheet, side);
-    if sheets::LONGEST_LIST < list {
-        return false;
-    }
-    let moves = list as usize;
-    let at = sheets::LISTS + moves;
-    if sheet[at] == 0 {
-        return false;
-    }
-    none_better(sheet, side, list)
+    let list = Mark::of(sheet, side).list;
+    list <= LONGEST_LIST
+        && sheet[sheets::LISTS + list as usize] != 0
+        && none_better(sheet, side, list)
 }
 
 // The mark names a deal that the sheet has.
+#[tactic(auto, unfolding(sheets::specs::Good::has_deal))]
 fn has_deal(sheet: &[u64], side: Side) -> bool
     requires { length sheet.now ≡ 716 }
     ensures { result ≡ has_deal side sheet.now }
 {
-    let deal = deal_of(sheet, side);
-    if deal < 1 {
-        return false;
-    }
-    let n = deal as usize;
-    if sheets::LAST_DEAL < n {
-        return false;
-    }
-    covered_at(sheet, n)
+    let n = Mark::of(sheet, side).deal as usize;
+    (1..=LAST_DEAL).contains(&n) && covered_at(sheet, n)
 }
 
 // The mark is absent.
+#[tactic(auto, unfolding(sheets::specs::Good::is_absent))]
 fn absent(sheet: &[u64], side: Side) -> bool
     requires { length sheet.now ≡ 716 }
     ensures { result ≡ is_absent side sheet.now }
 {
-    let list = list_of(sheet, side);
-    if list != 0 {
-        return false;
-    }
-    let deal = deal_of(sheet, side);
-    deal == 0
+    Mark::of(sheet, side) == Mark::default()
 }
 
 // The mark is right.
+#[tactic(auto, unfolding(sheets::specs::Figures::told, sheets::specs::Good::good_mark))]
 fn right(sheet: &[u64], side: Side) -> bool
     requires { length sheet.now ≡ 716 }
     ensures { result ≡ good_mark side sheet.now }
 {
     if sheet[sheets::ANSWERS] == 0 {
-        return absent(sheet, side);
+        absent(sheet, side)
+    } else {
+        best(sheet, side) && has_deal(sheet, side)
     }
-    if !best(sheet, side) {
-        return false;
-    }
-    has_deal(sheet, side)
 }
 
 // The sheet is good.
@@ -164,12 +117,12 @@ pub fn examine(sheet: &[u64]) -> bool
     if sheets::MOST_BUDGET < budget {
         return false;
     }
-    let count = count_deals(sheet);
-    if !adds_up(sheet, sheets::ANSWERS, sheets::COUNTED, count) {
+    let count = count_deals(sheet) as u64;
+    if !adds_up(&sheet[sheets::ANSWERS..sheets::POPS], count) {
         return false;
     }
     let wins = sheet[sheets::ANSWERS];
-    if !adds_up(sheet, sheets::LISTS, sheets::LENGTHS, wins) {
+    if !adds_up(&sheet[sheets::LISTS..sheets::COVERS], wins) {
         return false;
     }
     if !right(sheet, Side::Shortest) {
@@ -178,6 +131,5 @@ pub fn examine(sheet: &[u64]) -> bool
     if !right(sheet, Side::Longest) {
         return false;
     }
-    let most = budget * count;
-    sheet[sheets::POPS] <= most
+    sheet[sheets::POPS] <= budget * count
 }

@@ -1,13 +1,15 @@
--- An array filled place by place.
+-- An array by what stands at each place: filled place by place, or by `array::from_fn`.
 use mathlib.Core.Path.{◌≡◌, refl, sym, ap, ◌∙◌}
 use mathlib.Core.List.{List}
 use Prim.Native.Nat.{ℕ, ◌+◌, ◌<◌, ◌≤◌}
 use native.Mathlib.Numerals.{add-one}
 use native.Mathlib.Omega.{arith}
-use lib.ListN.{length, take, set, length-set}
+use lib.ListN.{length, get_or, take, set, length-set}
 use lib.Seq.{take_all, take-suc-set}
+use denote.Param.Members.{Mut, Called}
+use Rattle.std.specs.Array.{IsFromFnResult}
 use Rattle.base.specs.Words.{listed}
-use Rattle.base.proofs.Words.{listed_more}
+use Rattle.base.proofs.Words.{listed_more, listed_by}
 
 -- the first i of n places are filled by f
 pub record Filled (f : ℕ → ℕ) (n : ℕ) (s : List ℕ) (i : ℕ) : Type 0 where
@@ -36,3 +38,9 @@ module _ (f : ℕ → ℕ) {n : ℕ} where
       let l = a.long in
       let w = a.within in
       sym (take_all i s (omega arith)) ∙ a.upto ∙ ap (λ (k : ℕ). listed k f) (let q : i ≡ n = omega arith in q)
+
+-- what `array::from_fn` made, where each call gives what f does
+pub listed_calls : {F : Type 0} {g : Mut F (ℕ × Unit {0}) ℕ} {call : F} {s : List ℕ} {n : ℕ} (f : ℕ → ℕ) → IsFromFnResult g call s n
+    → ((k x : ℕ) (before after : F) → k < n → Called g before (k, tt) x after → x ≡ f k) → s ≡ listed n f
+listed_calls {s = s} {n = n} f made each =
+    listed_by f n s made.long (λ k h. let at = made.at k 0 h in each k (get_or s k 0) at.0 at.1 h at.2)

@@ -11,3 +11,4 @@ pub mod Placing
 pub mod Sorting
 pub mod Clearing
 pub mod Putting
+pub mod Lists

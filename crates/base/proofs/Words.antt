@@ -12,6 +12,7 @@ use lib.ListN.{length, get_or, take, length-append, get_or-append}
 use lib.Seq.{get_or_at, take-suc, take-length}
 use lib.Dec.{eqb}
 use borrow.Author.Tests.{eq-eqb, ne_eqb}
+use Rattle.std.proofs.lemmas.List.{ext_get_or}
 use Rattle.base.specs.Words.{every, all, occurs, listed, concat, sum}
 
 -- ---- tests
@@ -128,6 +129,12 @@ listed_same f g (suc n) h =
     let e = listed_same f g n (λ k l. h k (omega arith)) in
     let e' = h n (omega arith) in
     cc
+
+-- a list by what stands at each place
+pub listed_by : (f : ℕ → ℕ) (n : ℕ) (s : List ℕ) → length s ≡ n → ((k : ℕ) → k < n → get_or s k 0 ≡ f k) → s ≡ listed n f
+listed_by f n s l h =
+    ext_get_or 0 s (listed n f) (l ∙ sym (length-listed f n))
+    (λ k b. let below : k < n = omega arith in h k below ∙ sym (get_or-listed f n k 0 below))
 
 pub concat-append : (s t : List (List ℕ)) → concat (s ++ t) ≡ concat s ++ concat t
 unfolding concat

@@ -7,11 +7,7 @@ pub fn put_bytes(out: &mut [u8], at: usize, s: &[u8]) -> usize
     requires { at + length s.now ≤ length out.old }
     ensures { Puts out.old out.new at result s.now }
 {
-    let mut k = 0;
-    while k < s.len() {
-        let to = at + k;
-        out[to] = s[k];
-        k += 1;
-    }
-    at + s.len()
+    let end = at + s.len();
+    out[at..end].copy_from_slice(s);
+    end
 }

@@ -17,8 +17,7 @@ use Rattle.base.proofs.Sums.{sum_full, sum-all}
 use Rattle.card.proofs.Codes.{at_place, place_at, place_below_lem}
 use Rattle.board.specs.Verdict.{none_twice, none_missing}
 use Rattle.board.specs.Inner.{bit_at, Holds, Knows, Marks}
-use Rattle.board.specs.declared.Seen.{Seen}
-use Rattle.board.specs.declared.Seen.TheVariants.{Cards, Twice}
+use Rattle.std.specs.Prelude.{Option, Some, None}
 use Rattle.board.proofs.Bits.{bit_small, bit_here, bit_other, bit_fits, ones_are_bits}
 
 -- ---- what a list says of one card
@@ -60,7 +59,7 @@ twice_stays l t e =
 -- ---- one card
 
 module _ (seen code : ℕ) (card : is_card code ≡ true) where
-  pub mark_again : bit_at seen (place_of code) ≡ 1 → Marks seen (code ∷ []) Twice
+  pub mark_again : bit_at seen (place_of code) ≡ 1 → Marks seen (code ∷ []) None
   mark_again e =
       record {
         below = tt;
@@ -87,7 +86,7 @@ module _ (seen code : ℕ) (card : is_card code ≡ true) where
       let f = bit_other (place_of code) k seen e q in
       omega arith
 
-  pub mark_new : seen < 2 ^ 52 → (bit_at seen (place_of code) ≡ 1 → ⊥) → Marks seen (code ∷ []) (Cards (seen + 2 ^ place_of code))
+  pub mark_new : seen < 2 ^ 52 → (bit_at seen (place_of code) ≡ 1 → ⊥) → Marks seen (code ∷ []) (Some (seen + 2 ^ place_of code))
   mark_new h d =
       let e : bit_at seen (place_of code) ≡ 0 = let s = bit_small seen (place_of code) in omega arith in
       let f : seen + 2 ^ place_of code < 2 ^ 52 = bit_fits 52 (place_of code) seen (place_below_lem code card) h e in
@@ -98,49 +97,49 @@ module _ (seen code : ℕ) (card : is_card code ≡ true) where
 
 -- ---- none, and more
 
-pub marks_none : (seen : ℕ) → seen < 2 ^ 52 → Marks seen [] (Cards seen)
+pub marks_none : (seen : ℕ) → seen < 2 ^ 52 → Marks seen [] (Some seen)
 marks_none seen h = record { below = h; knows = λ l k. subst (λ (m : List ℕ). Holds seen m) (sym (append-nil l)) k }
 
-pub marks_more : {seen more : ℕ} {s t : List ℕ} {r : Seen} → Marks seen s (Cards more) → Marks more t r → Marks seen (s ++ t) r
+pub marks_more : {seen more : ℕ} {s t : List ℕ} {r : Option ℕ} → Marks seen s (Some more) → Marks more t r → Marks seen (s ++ t) r
 marks_more {s = s} {t = t} {r = r} a b =
     record { below = b.below; knows = λ l k. subst (λ (m : List ℕ). Knows r m) (append_assoc l s t) (b.knows (l ++ s) (a.knows l k)) }
 
-pub marks_twice : {seen : ℕ} {s : List ℕ} → Marks seen s Twice → (t : List ℕ) → Marks seen (s ++ t) Twice
+pub marks_twice : {seen : ℕ} {s : List ℕ} → Marks seen s None → (t : List ℕ) → Marks seen (s ++ t) None
 marks_twice {s = s} a t =
     record { below = tt; knows = λ l k. subst (λ (m : List ℕ). none_twice m ≡ false) (append_assoc l s t) (twice_stays (l ++ s) t (a.knows l k)) }
 
-pub marks_as : {seen : ℕ} {s : List ℕ} {r q : Seen} → Marks seen s r → r ≡ q → Marks seen s q
-marks_as {seen} {s} m e = subst (λ (q : Seen). Marks seen s q) e m
+pub marks_as : {seen : ℕ} {s : List ℕ} {r q : Option ℕ} → Marks seen s r → r ≡ q → Marks seen s q
+marks_as {seen} {s} m e = subst (λ (q : Option ℕ). Marks seen s q) e m
 
 -- ---- a loop over n lists: before the first, after one more, at the first repeat, at the end
 
 -- the cards of the first i lists are looked at
 pub record Passed (seen : ℕ) (f : ℕ → List ℕ) (n cards i : ℕ) : Type 0 where
   pub within : i ≤ n
-  pub marks : Marks seen (concat (listed i f)) (Cards cards)
+  pub marks : Marks seen (concat (listed i f)) (Some cards)
 
 module _ {seen : ℕ} (f : ℕ → List ℕ) (n : ℕ) where
   pub pass_none : seen < 2 ^ 52 → Passed seen f n seen 0
   pass_none h =
-      record { within = omega arith; marks = subst (λ (l : List ℕ). Marks seen l (Cards seen)) (sym (concat_none f)) (marks_none seen h) }
+      record { within = omega arith; marks = subst (λ (l : List ℕ). Marks seen l (Some seen)) (sym (concat_none f)) (marks_none seen h) }
 
-  pub pass_more : {cards more i : ℕ} {r : Seen} → Passed seen f n cards i → i < n → Marks cards (f i) r → r ≡ Cards more → Passed seen f n more (i + 1)
+  pub pass_more : {cards more i : ℕ} {r : Option ℕ} → Passed seen f n cards i → i < n → Marks cards (f i) r → r ≡ Some more → Passed seen f n more (i + 1)
   pass_more {cards} {more} {i} a h b e =
       record {
         within = omega arith;
-        marks = subst (λ (l : List ℕ). Marks seen l (Cards more)) (sym (concat_more f i))
+        marks = subst (λ (l : List ℕ). Marks seen l (Some more)) (sym (concat_more f i))
             (marks_more a.marks (marks_as b e));
       }
 
-  pub pass_stop : {cards i : ℕ} {r : Seen} → Passed seen f n cards i → i < n → Marks cards (f i) r → r ≡ Twice → Marks seen (concat (listed n f)) Twice
+  pub pass_stop : {cards i : ℕ} {r : Option ℕ} → Passed seen f n cards i → i < n → Marks cards (f i) r → r ≡ None → Marks seen (concat (listed n f)) None
   pass_stop {cards} {i} a h b e =
       let s = concat_split f n i h in
-      subst (λ (l : List ℕ). Marks seen l Twice) (sym s.1)
+      subst (λ (l : List ℕ). Marks seen l None) (sym s.1)
       (marks_twice (marks_more a.marks (marks_as b e)) s.0)
 
-  pub pass_end : {cards i : ℕ} → Passed seen f n cards i → n ≤ i → Marks seen (concat (listed n f)) (Cards cards)
+  pub pass_end : {cards i : ℕ} → Passed seen f n cards i → n ≤ i → Marks seen (concat (listed n f)) (Some cards)
   pass_end {cards} {i} a h =
-      subst (λ (m : ℕ). Marks seen (concat (listed m f)) (Cards cards)) (let w = a.within in let e : i ≡ n = omega arith in e) a.marks
+      subst (λ (m : ℕ). Marks seen (concat (listed m f)) (Some cards)) (let w = a.within in let e : i ≡ n = omega arith in e) a.marks
 
 -- ---- what the end says, begun with no card seen
 

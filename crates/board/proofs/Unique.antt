@@ -2,15 +2,13 @@
 use mathlib.Core.Path.{◌≡◌, refl, ap}
 use mathlib.Core.Bool.{false, cond}
 use Prim.Native.Nat.{ℕ}
+use Rattle.std.specs.Prelude.{Result, Ok, Err}
 use lib.Dec.{eqb}
-use Rattle.base.specs.Answer.{given, refused}
+use Rattle.base.specs.Answer.{Answer, given, refused}
 use Rattle.base.proofs.Unique.{told_once}
-use Rattle.board.specs.Verdict.{Verdict}
-use Rattle.board.specs.Refusal.{number_of, is_said, examined_told}
+use Rattle.board.specs.Refusal.{number_of, is_said, answered}
 use Rattle.board.specs.declared.Refusal.{Refusal}
 use Rattle.board.specs.declared.Refusal.TheVariants.{WrongLength, WrongVersion, WrongShape, NoCard, CardTwice, CardMissing, NoDeck, OverBudget, LittleRoom, NoNode, OutOfRange, WrongList, Unreachable, NoGame, SourceEmpty, OtherCard, TooMany, OverLimit, NoRun, NoFit, CellFull, NotNext, NoNumber, WrongText, NotWritable, CommonDeal, OtherSettings, WrongFigures, WrongSheet}
-use Rattle.board.specs.declared.Examined.{Examined}
-use Rattle.board.specs.declared.Examined.TheVariants.{WellFormed, Refused}
 
 -- the refusal with a number
 pub why_of : ℕ → Refusal
@@ -110,15 +108,15 @@ never_said OtherSettings = refl
 never_said WrongFigures = refl
 never_said WrongSheet = refl
 
-back : Verdict → Examined
-back (given u) = WellFormed
-back (refused n) = Refused (why_of n)
+back : {A : Type 0} → Answer A → Result A Refusal
+back (given a) = Ok a
+back (refused n) = Err (why_of n)
 
-law : (r : Examined) → back (examined_told r) ≡ r
+law : {A : Type 0} (r : Result A Refusal) → back (answered r) ≡ r
 unfolding back
-law WellFormed = refl
-law (Refused w) = ap Refused (why_law w)
+law (Ok a) = refl
+law (Err w) = ap Err (why_law w)
 
--- of `examine`, and of `inspect` and `verdict_on` under what they require
-pub examined_once : {v : Verdict} {r s : Examined} → examined_told r ≡ v → examined_told s ≡ v → r ≡ s
-examined_once = told_once examined_told back law
+-- of every entry point that answers or refuses, and of the inner forms that do
+pub answered_once : {A : Type 0} {a : Answer A} {r s : Result A Refusal} → answered r ≡ a → answered s ≡ a → r ≡ s
+answered_once = told_once answered back law

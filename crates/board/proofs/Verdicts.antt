@@ -15,8 +15,7 @@ use Rattle.board.specs.Verdict.{fine, is_cell, only_cards, verdict_on}
 use Rattle.board.specs.Record.{room, at_most, is_zero, spare_at, column_at, shown, shapely, examined, tableau_room}
 use Rattle.board.specs.Inner.{Marks, Parts, part_at}
 use Rattle.board.specs.declared.Board.{Board}
-use Rattle.board.specs.declared.Seen.{Seen}
-use Rattle.board.specs.declared.Seen.TheVariants.{Cards, Twice}
+use Rattle.std.specs.Prelude.{Option, Some, None}
 use Rattle.board.proofs.Tables.{at_most_lem}
 use Rattle.board.proofs.Marks.{marks_as, holds_none, holds_once, ones_all, ones_some}
 
@@ -35,18 +34,18 @@ module _ (t : Table) where
     only_cards_lem = both cells codes
 
     -- what the cards seen say of the table
-    module _ {r : Seen} (m : Marks 0 (cards_on t) r) where
-      pub seen_twice : r ≡ Twice → refused 14 ≡ verdict_on t
+    module _ {r : Option ℕ} (m : Marks 0 (cards_on t) r) where
+      pub seen_twice : r ≡ None → refused 14 ≡ verdict_on t
       unfolding verdict_on
       seen_twice e = rw (only_cards_lem, (marks_as m e).knows [] holds_none)
 
-      pub seen_all : {seen : ℕ} → r ≡ Cards seen → ones seen ≡ 52 → fine ≡ verdict_on t
+      pub seen_all : {seen : ℕ} → r ≡ Some seen → ones seen ≡ 52 → fine ≡ verdict_on t
       unfolding verdict_on
       seen_all e h =
           let k = (marks_as m e).knows [] holds_none in
           rw (only_cards_lem, holds_once k, ones_all k h)
 
-      pub seen_some : {seen : ℕ} → r ≡ Cards seen → (ones seen ≡ 52 → ⊥) → refused 15 ≡ verdict_on t
+      pub seen_some : {seen : ℕ} → r ≡ Some seen → (ones seen ≡ 52 → ⊥) → refused 15 ≡ verdict_on t
       unfolding verdict_on
       seen_some e h =
           let k = (marks_as m e).knows [] holds_none in

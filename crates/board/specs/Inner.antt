@@ -1,16 +1,12 @@
 -- What the inner functions ask of the parts of a record that is known to be well formed, place by place.
-use Rattle.std.specs.Prelude.{◌≡◌, Bool, true, false, List, ◌++◌, ℕ, ◌+◌, ◌*◌, ◌^◌, ◌/◌, ◌%◌, ◌<◌, ◌≤◌, length, get_or, take, drop}
+use Rattle.std.specs.Prelude.{◌≡◌, true, false, Option, Some, None, List, ◌++◌, ℕ, ◌+◌, ◌*◌, ◌^◌, ◌/◌, ◌%◌, ◌<◌, ◌≤◌, length, get_or, take, drop}
 use Rattle.base.specs.Words.{occurs}
 use Rattle.card.specs.Card.{is_card}
 use Rattle.card.specs.Pack.{card_at}
 use Rattle.board.specs.Table.{cards_on}
 use Rattle.board.specs.Verdict.{is_cell, none_twice}
-use Rattle.board.specs.Record.{room, at_most, shown, tableau_room}
+use Rattle.board.specs.Record.{room, shown, tableau_room}
 use Rattle.board.specs.declared.Board.{Board}
-use Rattle.board.specs.declared.Kind.{Kind}
-use Rattle.board.specs.declared.Kind.TheVariants.{Card, Cell, AtMost}
-use Rattle.board.specs.declared.Seen.{Seen}
-use Rattle.board.specs.declared.Seen.TheVariants.{Cards, Twice}
 
 -- ---- what is asked of the parts of a record
 
@@ -43,13 +39,6 @@ pub record Sized (b : Board) : Type 0 where
   pub eight : length b.counts ≡ 8
   pub full : length b.tableau ≡ tableau_room
 
--- ---- what a loop asks of each byte
-
-abbrev pub is_kind : Kind → ℕ → Bool
-is_kind Card x = is_card x
-is_kind Cell x = is_cell x
-is_kind (AtMost n) x = at_most n x
-
 -- ---- the eight columns as parts of some bytes, and the cards seen as one number
 
 -- part i of the codes: as many as its count, from its start
@@ -71,15 +60,15 @@ pub record Holds (seen : ℕ) (l : List ℕ) : Type 0 where
   pub bits : (k : ℕ) → k < 52 → bit_at seen k ≡ occurs (card_at k) l
 
 -- what is known once the cards of a list were looked at
-abbrev pub Knows : Seen → List ℕ → Type 0
-Knows (Cards seen) l = Holds seen l
-Knows Twice l = none_twice l ≡ false
+abbrev pub Knows : Option ℕ → List ℕ → Type 0
+Knows (Some seen) l = Holds seen l
+Knows None l = none_twice l ≡ false
 
-abbrev pub Below : Seen → Type 0
-Below (Cards seen) = seen < 2 ^ 52
-Below Twice = Unit {0}
+abbrev pub Below : Option ℕ → Type 0
+Below (Some seen) = seen < 2 ^ 52
+Below None = Unit {0}
 
 -- looking at the cards of s after those in `seen` gives r
-pub record Marks (seen : ℕ) (s : List ℕ) (r : Seen) : Type 0 where
+pub record Marks (seen : ℕ) (s : List ℕ) (r : Option ℕ) : Type 0 where
   pub below : Below r
   pub knows : (l : List ℕ) → Holds seen l → Knows r (l ++ s)

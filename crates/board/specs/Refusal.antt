@@ -1,11 +1,8 @@
--- SCOPE.md's number for each refusal, and what each case of an examination means.
-use Rattle.std.specs.Prelude.{Bool, ◌||◌, ℕ, eqb, leb}
-use Rattle.base.specs.Answer.{refused}
-use Rattle.board.specs.Verdict.{Verdict, fine}
+-- SCOPE.md's number for each refusal, and what an answer of the code means.
+use Rattle.std.specs.Prelude.{Result, Ok, Err, Bool, ◌||◌, ℕ, eqb, leb}
+use Rattle.base.specs.Answer.{Answer, given, refused}
 use Rattle.board.specs.declared.Refusal.{Refusal}
 use Rattle.board.specs.declared.Refusal.TheVariants.{WrongLength, WrongVersion, WrongShape, NoCard, CardTwice, CardMissing, NoDeck, OverBudget, LittleRoom, NoNode, OutOfRange, WrongList, Unreachable, NoGame, SourceEmpty, OtherCard, TooMany, OverLimit, NoRun, NoFit, CellFull, NotNext, NoNumber, WrongText, NotWritable, CommonDeal, OtherSettings, WrongFigures, WrongSheet}
-use Rattle.board.specs.declared.Examined.{Examined}
-use Rattle.board.specs.declared.Examined.TheVariants.{WellFormed, Refused}
 
 abbrev pub number_of : Refusal → ℕ
 number_of WrongLength = 10
@@ -43,6 +40,7 @@ number_of WrongSheet = 47
 abbrev pub is_said : ℕ → Bool
 is_said n = leb n 5 || (eqb n 23 || eqb n 24)
 
-abbrev pub examined_told : Examined → Verdict
-examined_told WellFormed = fine
-examined_told (Refused why) = refused (number_of why)
+-- what an answer of the code means: what was asked for, or SCOPE.md's number
+abbrev pub answered : {A : Type 0} → Result A Refusal → Answer A
+answered (Ok a) = given a
+answered (Err why) = refused (number_of why)

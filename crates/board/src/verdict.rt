@@ -3,12 +3,12 @@ ghost use Rattle.std.specs.Prelude.{◌≡◌, true, length, ◌*◌};
 ghost use Rattle.base.specs.Words.{every, all, concat, listed};
 ghost use Rattle.card.specs.Card.{is_card};
 ghost use Rattle.board.specs.Table.{cards_on};
-ghost use Rattle.board.specs.Verdict.{none_twice, verdict_on};
+ghost use Rattle.board.specs.Verdict.{is_cell, none_twice, verdict_on};
 ghost use Rattle.board.specs.Record.{room, at_most, is_zero, spare_at, examined, laid};
-ghost use Rattle.board.specs.Refusal.{examined_told};
-ghost use Rattle.board.specs.Inner.{is_kind, Marks, GoodCells, GoodPiles, Parts, part_at, Sized};
+ghost use Rattle.board.specs.Refusal.{answered};
+ghost use Rattle.board.specs.Inner.{Marks, GoodCells, GoodPiles, Parts, part_at, Sized};
 
-use crate::{CODES, Examined, Kind, ROOM, Refusal, Seen, mask};
+use crate::{CODES, ROOM, Refusal, mask};
 
 // The most cards of a column, as a byte.
 const MOST: u8 = ROOM as u8;
@@ -25,33 +25,32 @@ const STARTS: [usize; 8] = [
     7 * ROOM,
 ];
 
-fn is_kind(kind: Kind, x: u8) -> bool
-    ensures { result ≡ is_kind kind x }
+// Every byte of a list is a card's code.
+pub fn are_cards(codes: &[u8]) -> bool
+    ensures { result ≡ all is_card codes.now }
 {
-    match kind {
-        Kind::Card => card::is_card(x),
-        Kind::Cell => {
-            if x == 255 {
-                return true;
-            }
-            card::is_card(x)
-        }
-        Kind::AtMost(n) => x <= n,
-    }
+    codes.iter().all(|code| card::is_card(*code))
 }
 
-// Every byte of a list is of a kind.
-pub fn all_of(kind: Kind, s: &[u8]) -> bool
-    ensures { result ≡ all (is_kind kind) s.now }
+// None is above `most`.
+pub fn within(most: u8, counts: &[u8]) -> bool
+    ensures { result ≡ all (at_most most) counts.now }
 {
-    let mut i = 0;
-    while i < s.len() {
-        if !is_kind(kind, s[i]) {
-            return false;
-        }
-        i += 1;
-    }
-    true
+    counts.iter().all(|count| *count <= most)
+}
+
+// A cell's code: FF for empty, else a card's.
+fn is_cell(code: u8) -> bool
+    ensures { result ≡ is_cell code }
+{
+    code == 255 || card::is_card(code)
+}
+
+fn are_cells(cells: &[u8; 4]) -> bool
+    requires { length cells.now ≡ 4 }
+    ensures { result ≡ all is_cell cells.now }
+{
+    cells.iter().all(|code| is_cell(*code))
 }
 
 // No card comes twice in a list of cards.
@@ -59,10 +58,7 @@ pub fn none_twice(s: &[u8]) -> bool
     requires { all is_card s.now ≡ true }
     ensures { result ≡ none_twice s.now }
 {
-    match mask::mark_all(0, s) {
-        Seen::Cards(_) => true,
-        Seen::Twice => false,
-    }
+    mask::mark_all(0, s).is_some()
 }
 
 // Every code of the eight columns is a card's.
@@ -70,14 +66,12 @@ fn columns_are_cards<'a>(starts: &'a [usize; 8], counts: &'a [u8; 8], codes: &'a
     requires { Parts starts.now counts.now codes.now }
     ensures { result ≡ all is_card (concat (listed 8 (part_at starts.now counts.now codes.now))) }
 {
-    let mut i = 0;
-    while i < 8 {
+    for i in 0..8 {
         let start = starts[i];
-        let end = start + base::wide(counts[i]);
-        if !all_of(Kind::Card, &codes[start..end]) {
+        let end = start + usize::from(counts[i]);
+        if !are_cards(&codes[start..end]) {
             return false;
         }
-        i += 1;
     }
     true
 }
@@ -89,15 +83,13 @@ fn spare_is_zero<'a>(counts: &'a [u8; 8], tableau: &'a [u8]) -> bool
     requires counts_value { all (at_most room) counts.now ≡ true }
     ensures { result ≡ every 8 (λ i. all is_zero (spare_at counts.now tableau.now i)) }
 {
-    let mut i = 0;
-    while i < 8 {
+    for i in 0..8 {
         let first = i * ROOM;
-        let start = first + base::wide(counts[i]);
+        let start = first + usize::from(counts[i]);
         let end = first + ROOM;
-        if !all_of(Kind::AtMost(0), &tableau[start..end]) {
+        if !within(0, &tableau[start..end]) {
             return false;
         }
-        i += 1;
     }
     true
 }
@@ -109,19 +101,15 @@ fn mark_table<'a>(
     starts: &'a [usize; 8],
     counts: &'a [u8; 8],
     codes: &'a [u8],
-) -> Seen
+) -> Option<u64>
     requires good_cells { GoodCells cells.now }
     requires good_piles { GoodPiles foundation.now }
     requires parts { Parts starts.now counts.now codes.now }
     requires codes_value { all is_card (concat (listed 8 (part_at starts.now counts.now codes.now))) ≡ true }
     ensures { Marks 0 (cards_on (record { cells = cells.entry.now; foundation = foundation.now; columns = listed 8 (part_at starts.now counts.now codes.now) })) result }
 {
-    let Seen::Cards(piled) = mask::mark_piles(0, foundation) else {
-        return Seen::Twice;
-    };
-    let Seen::Cards(held) = mask::mark_cells(piled, cells) else {
-        return Seen::Twice;
-    };
+    let piled = mask::mark_piles(0, foundation)?;
+    let held = mask::mark_cells(piled, cells)?;
     mask::mark_columns(held, starts, counts, codes)
 }
 
@@ -132,25 +120,25 @@ pub fn verdict_on<'a>(
     starts: &'a [usize; 8],
     counts: &'a [u8; 8],
     codes: &'a [u8],
-) -> Examined
+) -> Result<(), Refusal>
     requires cells_len { length cells.now ≡ 4 }
     requires good_piles { GoodPiles foundation.now }
     requires parts { Parts starts.now counts.now codes.now }
-    ensures { examined_told result ≡ verdict_on (record { cells = cells.entry.now; foundation = foundation.now; columns = listed 8 (part_at starts.now counts.now codes.now) }) }
+    ensures { answered result ≡ verdict_on (record { cells = cells.entry.now; foundation = foundation.now; columns = listed 8 (part_at starts.now counts.now codes.now) }) }
 {
-    if !all_of(Kind::Cell, cells) {
-        return Examined::Refused(Refusal::NoCard);
+    if !are_cells(cells) {
+        return Err(Refusal::NoCard);
     }
     if !columns_are_cards(starts, counts, codes) {
-        return Examined::Refused(Refusal::NoCard);
+        return Err(Refusal::NoCard);
     }
-    let Seen::Cards(seen) = mark_table(cells, foundation, starts, counts, codes) else {
-        return Examined::Refused(Refusal::CardTwice);
+    let Some(seen) = mark_table(cells, foundation, starts, counts, codes) else {
+        return Err(Refusal::CardTwice);
     };
-    if u64::count_ones(seen) == 52 {
-        return Examined::WellFormed;
+    if seen.count_ones() == 52 {
+        return Ok(());
     }
-    Examined::Refused(Refusal::CardMissing)
+    Err(Refusal::CardMissing)
 }
 
 // 12, 13, 14, 15, or well formed, for a record lent by its parts.
@@ -159,18 +147,18 @@ pub fn inspect<'a>(
     foundation: &'a [u8; 4],
     counts: &'a [u8; 8],
     tableau: &'a [u8; CODES],
-) -> Examined
+) -> Result<(), Refusal>
     requires { Sized (laid cells.now foundation.now counts.now tableau.now) }
-    ensures { examined_told result ≡ examined (laid cells.now foundation.now counts.now tableau.now) }
+    ensures { answered result ≡ examined (laid cells.now foundation.now counts.now tableau.now) }
 {
-    if !all_of(Kind::AtMost(MOST), counts) {
-        return Examined::Refused(Refusal::WrongShape);
+    if !within(MOST, counts) {
+        return Err(Refusal::WrongShape);
     }
-    if !all_of(Kind::AtMost(13), foundation) {
-        return Examined::Refused(Refusal::WrongShape);
+    if !within(13, foundation) {
+        return Err(Refusal::WrongShape);
     }
     if !spare_is_zero(counts, tableau) {
-        return Examined::Refused(Refusal::WrongShape);
+        return Err(Refusal::WrongShape);
     }
     verdict_on(cells, foundation, &STARTS, counts, tableau)
 }

@@ -40,9 +40,6 @@ module _ (bytes : List ℕ) (k : ℕ) where
     pub part_possible : possible (take (k * 5 + 5 - k * 5) (drop (k * 5) bytes)) ≡ true
     part_possible = ap possible (record_part bytes k) ∙ h.records.each k below
 
-    pub part_fits : k * 5 + 5 ≤ length bytes
-    part_fits = let f = h.records.fits in omega arith
-
   module _ (p : Move → Bool) where
     abbrev partly : List Move
     partly = chosen p (move_of (take (k * 5 + 5 - k * 5) (drop (k * 5) bytes)) ∷ [])

@@ -1,4 +1,5 @@
 -- Of some records those whose moves meet a test are written on.
+use Rattle.std.specs.Prelude.{None, Some, Option}
 use mathlib.Core.Path.{◌≡◌, refl, sym, ap, ◌∙◌, subst}
 use mathlib.Core.Bool.{Bool, true, false, cond}
 use mathlib.Core.List.{List, [], ◌∷◌, ◌++◌}
@@ -6,13 +7,11 @@ use Prim.Native.Nat.{ℕ, zero, suc, ◌+◌, ◌*◌, ◌≤◌}
 use native.Mathlib.Omega.{arith}
 use lib.ListN.{length}
 use Rattle.base.specs.Words.{listed}
-use Rattle.base.specs.Answer.{given, refused}
+use Rattle.base.specs.Answer.{given, refused, given_or}
 use Rattle.board.specs.declared.Board.{Board}
-use Rattle.moves.specs.Record.{possible, move_of, move_asked, move_told}
+use Rattle.moves.specs.Record.{possible, move_of, move_asked}
 use Rattle.moves.specs.declared.Move.{Move}
 use Rattle.moves.proofs.Saying.{asked-possible}
-use Rattle.moves.specs.declared.Decoded.{Decoded}
-use Rattle.moves.specs.declared.Decoded.TheVariants.{Is, Impossible}
 use Rattle.play.specs.Change.{Ready}
 use Rattle.generate.specs.Found.{gather}
 use Rattle.moves.specs.Written.{Adds}
@@ -23,17 +22,17 @@ use Rattle.candidates.specs.Inner.{move_at, moves_in}
 
 -- ---- the move of a possible record
 
-module _ (bytes : List ℕ) (p : possible bytes ≡ true) {d : Decoded} (e : move_told d ≡ move_asked bytes) where
-  pub told_move : {m : Move} → d ≡ Is m → m ≡ move_of bytes
-  told_move {m} q = let s : given m ≡ given (move_of bytes) = ap move_told (sym q) ∙ e ∙ asked-possible bytes p in cc
+module _ (bytes : List ℕ) (p : possible bytes ≡ true) {d : Option Move} (e : given_or 30 d ≡ move_asked bytes) where
+  pub told_move : {m : Move} → d ≡ Some m → m ≡ move_of bytes
+  told_move {m} q = let s : given m ≡ given (move_of bytes) = ap (given_or 30) (sym q) ∙ e ∙ asked-possible bytes p in cc
 
-  pub never_impossible : d ≡ Impossible → ⊥
+  pub never_impossible : d ≡ None → ⊥
   never_impossible q =
-      let s : refused 30 ≡ given (move_of bytes) = ap move_told (sym q) ∙ e ∙ asked-possible bytes p in
+      let s : refused 30 ≡ given (move_of bytes) = ap (given_or 30) (sym q) ∙ e ∙ asked-possible bytes p in
       let z : ◌≡◌ {A = ℕ} 0 1 = cc in
       let w : ⊥ = omega arith in w
 
-  pub told_ready : {b : Board} {m : Move} → d ≡ Is m → Ready b (move_of bytes) → Ready b m
+  pub told_ready : {b : Board} {m : Move} → d ≡ Some m → Ready b (move_of bytes) → Ready b m
   told_ready {b} q r = subst (Ready b) (sym (told_move q)) r
 
 -- ---- one record

@@ -29,7 +29,7 @@ use Rattle.safe.specs.Safe.{safe, chosen, is_safe, home_moves}
 use Rattle.candidates.specs.Candidates.{better, worthwhile, is_unsafe, late_moves}
 use Rattle.candidates.specs.Inner.{meets}
 use Rattle.candidates.specs.declared.Test.{Test}
-use Rattle.candidates.specs.declared.Test.TheVariants.{Safe, Unsafe, Worthwhile}
+use Rattle.candidates.specs.declared.Test.TheVariants.{Unsafe, Worthwhile}
 
 -- ---- better features
 
@@ -63,9 +63,6 @@ safe_here b m e q h = h ∙ ap₂ safe (shown_foundation b) (q ∙ ap code_of e)
 -- ---- the tests
 
 module _ (t : Table) (m : Move) {test : Test} {r : Bool} where
-  pub meets-safe : test ≡ Safe → r ≡ is_safe t m → r ≡ meets test t m
-  meets-safe q e = e ∙ ap (λ (k : Test). meets k t m) (sym q)
-
   pub meets_unsafe : test ≡ Unsafe → r ≡ is_safe t m → not r ≡ meets test t m
   unfolding is_unsafe
   meets_unsafe q e = ap not e ∙ ap (λ (k : Test). meets k t m) (sym q)

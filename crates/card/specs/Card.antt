@@ -1,12 +1,8 @@
 -- A card and its code: value * 16 + suit, with values 1 (ace) to 13 (king).
 use Rattle.std.specs.Prelude.{Bool, ◌&&◌, ℕ, ◌+◌, ◌*◌, ◌/◌, ◌%◌, ltb, leb}
-use Rattle.base.specs.Answer.{Answer, given, refused, unless}
+use Rattle.base.specs.Answer.{Answer, given, unless}
 use Rattle.card.specs.Suit.{suit_number, suit_at}
 use Rattle.card.specs.declared.Card.{Card}
-use Rattle.card.specs.declared.Coded.{Coded}
-use Rattle.card.specs.declared.Coded.TheVariants as coded
-use Rattle.card.specs.declared.Decoded.{Decoded}
-use Rattle.card.specs.declared.Decoded.TheVariants as decoded
 
 -- ace to king
 unfoldable pub is_value : ℕ → Bool
@@ -31,12 +27,3 @@ card_asked x = unless (is_card x) 30 (given (card_of x))
 -- what this card's code is: 30 for a value that no card has
 unfoldable pub code_asked : Card → Answer ℕ
 code_asked c = unless (is_value c.value) 30 (given (code_of c))
-
--- what each case of the code's answers means
-abbrev pub card_told : Decoded → Answer Card
-card_told (decoded.Is c) = given c
-card_told decoded.NoCard = refused 30
-
-abbrev pub code_told : Coded → Answer ℕ
-code_told (coded.Code x) = given x
-code_told coded.NoCode = refused 30

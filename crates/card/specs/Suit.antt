@@ -1,12 +1,10 @@
 -- The four suits, their numbers 0 to 3, and their colours.
 use Rattle.std.specs.Prelude.{ℕ, zero, suc, ltb}
-use Rattle.base.specs.Answer.{Answer, given, refused, unless}
+use Rattle.base.specs.Answer.{Answer, given, unless}
 use Rattle.card.specs.declared.Suit.{Suit}
 use Rattle.card.specs.declared.Suit.TheVariants.{Club, Diamond, Heart, Spade}
 use Rattle.card.specs.declared.Color.{Color}
 use Rattle.card.specs.declared.Color.TheVariants.{Black, Red}
-use Rattle.card.specs.declared.FoundSuit.{FoundSuit}
-use Rattle.card.specs.declared.FoundSuit.TheVariants.{Is, NoSuit}
 
 -- clubs, diamonds, hearts, spades
 abbrev pub suit_number : Suit → ℕ
@@ -32,8 +30,3 @@ color_of Spade = Black
 -- which suit has this number: 30 for a number above 3
 unfoldable pub suit_asked : ℕ → Answer Suit
 suit_asked n = unless (ltb n 4) 30 (given (suit_at n))
-
--- what each case of the code's answer means
-abbrev pub suit_told : FoundSuit → Answer Suit
-suit_told (Is s) = given s
-suit_told NoSuit = refused 30

@@ -2,11 +2,12 @@
 #![tactic(auto)]
 
 ghost use Rattle.std.specs.Prelude.{◌≡◌, true};
-ghost use Rattle.card.specs.Suit.{suit_number, suit_at, color_of, suit_asked, suit_told};
-ghost use Rattle.card.specs.Card.{is_card, is_value, card_of, code_of, code_asked, code_told, card_asked, card_told};
+ghost use Rattle.base.specs.Answer.{given_or};
+ghost use Rattle.card.specs.Suit.{suit_number, suit_at, color_of, suit_asked};
+ghost use Rattle.card.specs.Card.{is_card, is_value, card_of, code_of, code_asked, card_asked};
 ghost use Rattle.card.specs.Pack.{place_of};
 
-#[derive(Clone, Copy)]
+#[derive(Clone, Copy, PartialEq, Eq)]
 pub enum Suit {
     Club,
     Diamond,
@@ -14,37 +15,16 @@ pub enum Suit {
     Spade,
 }
 
-#[derive(Clone, Copy)]
+#[derive(Clone, Copy, PartialEq, Eq)]
 pub enum Color {
     Black,
     Red,
 }
 
-#[derive(Clone, Copy)]
+#[derive(Clone, Copy, PartialEq, Eq)]
 pub struct Card {
     pub suit: Suit,
     pub value: u8,
-}
-
-// The Rust's `Option<Suit>`.
-#[derive(Clone, Copy)]
-pub enum FoundSuit {
-    Is(Suit),
-    NoSuit,
-}
-
-// A card's code; none where the value is no card's.
-#[derive(Clone, Copy)]
-pub enum Coded {
-    Code(u8),
-    NoCode,
-}
-
-// The Rust's `Option<Card>`.
-#[derive(Clone, Copy)]
-pub enum Decoded {
-    Is(Card),
-    NoCard,
 }
 
 impl Suit {
@@ -52,32 +32,21 @@ impl Suit {
         ensures { result ≡ color_of self }
     {
         match self {
-            Suit::Club => Color::Black,
-            Suit::Diamond => Color::Red,
-            Suit::Heart => Color::Red,
-            Suit::Spade => Color::Black,
+            Suit::Club | Suit::Spade => Color::Black,
+            Suit::Diamond | Suit::Heart => Color::Red,
         }
     }
 
-    // The Rust's `suit as u8`.
     pub fn number(self) -> u8
         ensures { result ≡ suit_number self }
     {
-        match self {
-            Suit::Club => 0,
-            Suit::Diamond => 1,
-            Suit::Heart => 2,
-            Suit::Spade => 3,
-        }
+        self as u8
     }
 
-    pub fn from_u8(v: u8) -> FoundSuit
-        ensures { suit_told result ≡ suit_asked v }
+    pub fn from_u8(v: u8) -> Option<Suit>
+        ensures { given_or 30 result ≡ suit_asked v }
     {
-        if 3 < v {
-            return FoundSuit::NoSuit;
-        }
-        FoundSuit::Is(suit_at(v))
+        if v < 4 { Some(suit_at(v)) } else { None }
     }
 }
 
@@ -93,19 +62,19 @@ pub fn suit_at(v: u8) -> Suit
     }
 }
 
+// Ace to king.
+fn is_value(value: u8) -> bool
+    ensures { result ≡ is_value value }
+{
+    1 <= value && value <= 13
+}
+
 // Whether a byte is some card's code.
 pub fn is_card(code: u8) -> bool
     ensures { result ≡ is_card code }
 {
-    let value = code / 16;
     let suit = code % 16;
-    if value < 1 {
-        return false;
-    }
-    if 13 < value {
-        return false;
-    }
-    suit < 4
+    is_value(code / 16) && suit < 4
 }
 
 // The card with a code that is known to be one.
@@ -156,26 +125,25 @@ impl Card {
         suit.color()
     }
 
-    pub fn encode(self) -> Coded
-        ensures { code_told result ≡ code_asked self }
+    // None where the value is no card's.
+    pub fn encode(self) -> Option<u8>
+        ensures { given_or 30 result ≡ code_asked self }
     {
-        let value = self.value;
-        if value < 1 {
-            return Coded::NoCode;
+        if is_value(self.value) {
+            Some(code_of(self))
+        } else {
+            None
         }
-        if 13 < value {
-            return Coded::NoCode;
-        }
-        Coded::Code(code_of(self))
     }
 
-    pub fn decode(code: u8) -> Decoded
-        ensures { card_told result ≡ card_asked code }
+    // None for a code that is no card's.
+    pub fn decode(code: u8) -> Option<Card>
+        ensures { given_or 30 result ≡ card_asked code }
     {
         if is_card(code) {
-            Decoded::Is(card_of(code))
+            Some(card_of(code))
         } else {
-            Decoded::NoCard
+            None
         }
     }
 }

@@ -1,4 +1,5 @@
 -- The children of a node, one after the other.
+use Rattle.std.specs.Prelude.{None, Some, Option}
 use mathlib.Core.Path.{◌≡◌, refl, sym, ap, ◌∙◌, subst}
 use mathlib.Core.List.{List, ◌∷◌}
 use Prim.Native.Nat.{ℕ, ◌+◌, ◌-◌, ◌*◌, ◌<◌, ◌≤◌}
@@ -16,8 +17,6 @@ use Rattle.nodes.specs.Step.{cost_at}
 use Rattle.nodes.specs.Line.{table_to}
 use Rattle.memory.specs.declared.Room.{Room}
 use Rattle.memory.specs.declared.Counts.{Counts}
-use Rattle.memory.specs.declared.Growth.{Growth}
-use Rattle.memory.specs.declared.Growth.TheVariants as growth
 use Rattle.memory.specs.Memory.{Memory}
 use Rattle.memory.proofs.Growing.{many_moves, next_move, next_playable, Growing, growing_start, kept_table, kept_line, growing_end, growing_turn, growing_full}
 use Rattle.children.specs.Inner.{SameSize, Stands, Bears, Expands}
@@ -62,14 +61,14 @@ module _ {root : Board} {r : Room} {m₀ : Memory} {c₀ : Counts} {i : ℕ} {b 
       next : drop k (candidates (table_to (shown root) m₀.nodes i)) ≡ move ∷ drop (k + 1) (candidates (table_to (shown root) m₀.nodes i))
       next = subst (λ (y : Move). drop k (candidates (table_to (shown root) m₀.nodes i)) ≡ y ∷ drop (k + 1) (candidates (table_to (shown root) m₀.nodes i))) (sym (q ∙ part_move list k)) (next_move list moves_are k h)
 
-      pub expanding_turn : {new : Memory} {d : Counts} → Bears root r m new c i move (growth.Grown d) → SameSize m new → Expanding root r m₀ c₀ i n new d (k + 1)
+      pub expanding_turn : {new : Memory} {d : Counts} → Bears root r m new c i move (Some d) → SameSize m new → Expanding root r m₀ c₀ i n new d (k + 1)
       expanding_turn y z =
           record { upto = omega arith; size = sized x.size z; growing = growing_turn x.growing next y.grows y.grew.machine y.grew.same }
 
-      pub expanding_full : {new : Memory} → Bears root r m new c i move growth.OutOfNodes → Expands root r m₀ new c₀ i growth.OutOfNodes
+      pub expanding_full : {new : Memory} → Bears root r m new c i move None → Expands root r m₀ new c₀ i None
       expanding_full y = record { grew = y.grew; grows = growing_full x.growing next y.grows }
 
-    pub expanding_end : n ≤ k → Expands root r m₀ m c₀ i (growth.Grown c)
+    pub expanding_end : n ≤ k → Expands root r m₀ m c₀ i (Some c)
     expanding_end h =
         record {
           grew = record { machine = x.growing.machine; more = x.growing.more; same = x.growing.kept; pops = x.growing.pops };
@@ -78,9 +77,9 @@ module _ {root : Board} {r : Room} {m₀ : Memory} {c₀ : Counts} {i : ℕ} {b 
 
 -- ---- a child's growth, when it is known which
 
-module _ {root : Board} {r : Room} {m new : Memory} {c : Counts} {i : ℕ} {move : Move} {g : Growth} (y : Bears root r m new c i move g) where
-  pub full_bears : g ≡ growth.OutOfNodes → Bears root r m new c i move growth.OutOfNodes
+module _ {root : Board} {r : Room} {m new : Memory} {c : Counts} {i : ℕ} {move : Move} {g : Option Counts} (y : Bears root r m new c i move g) where
+  pub full_bears : g ≡ None → Bears root r m new c i move None
   full_bears q = subst (Bears root r m new c i move) q y
 
-  pub grown_bears : {d : Counts} → g ≡ growth.Grown d → Bears root r m new c i move (growth.Grown d)
+  pub grown_bears : {d : Counts} → g ≡ Some d → Bears root r m new c i move (Some d)
   grown_bears q = subst (Bears root r m new c i move) q y

@@ -1,4 +1,5 @@
 -- One child, case by case: the memory shows what the definition makes of it.
+use Rattle.std.specs.Prelude.{Option, Some, None}
 use mathlib.Core.Path.{◌≡◌, refl, sym, ap, subst}
 use mathlib.Core.Bool.{true, false}
 use Prim.Native.Nat.{ℕ, ◌+◌, ◌<◌, ◌≤◌}
@@ -23,7 +24,6 @@ use Rattle.search.specs.Solve.{as_good}
 use Rattle.memory.specs.View.{told}
 use Rattle.memory.specs.declared.Room.{Room}
 use Rattle.memory.specs.declared.Counts.{Counts}
-use Rattle.memory.specs.declared.Growth.TheVariants as growth
 use Rattle.memory.specs.Memory.{Memory}
 use Rattle.memory.specs.Steps.{Spot, counted, Wrote}
 use Rattle.memory.proofs.Within.{cost_short}
@@ -31,8 +31,6 @@ use Rattle.memory.proofs.Children.{Child, child_by, child_few}
 use Rattle.memory.proofs.Writing.{spot_place, node_kept, machine_wrote}
 use Rattle.memory.proofs.Bearing.{bears_deep, bears_known, bears_full, bears_born}
 use Rattle.children.specs.Inner.{Chooses, Birth, Stands, Onward, Bears}
-use Rattle.children.specs.declared.Choice.{Choice}
-use Rattle.children.specs.declared.Choice.TheVariants.{Dropped, Slot}
 
 child_most : (b : Board) (move : Move) → Ready b move → length (child_moves (shown b) move) ≤ 53
 unfolding child_moves
@@ -59,11 +57,11 @@ module _ {root : Board} {r : Room} {m : Memory} {c : Counts} {i : ℕ} {b : Boar
     child : Child (shown root) m c i move (cost + moves) (shown board)
     child = child_by s.machine s.born bear_ready s.shows k (ap (λ (n : ℕ). n + moves) e)
 
-    pub bear_deep : 200 < cost + moves → Bears root r m m c i move (growth.Grown c)
+    pub bear_deep : 200 < cost + moves → Bears root r m m c i move (Some c)
     bear_deep h = record { grew = same; grows = bears_deep s.machine child h }
 
-    module _ {key : ℕ} (signs : key ≡ signature_of (shown board)) {choice : Choice} (ch : Chooses m.keys m.costs r.entries key (cost + moves) choice) where
-      pub bear_known : choice ≡ Dropped → Bears root r m m c i move (growth.Grown c)
+    module _ {key : ℕ} (signs : key ≡ signature_of (shown board)) {choice : Option ℕ} (ch : Chooses m.keys m.costs r.entries key (cost + moves) choice) where
+      pub bear_known : choice ≡ None → Bears root r m m c i move (Some c)
       bear_known q =
           record {
             grew = same;
@@ -72,14 +70,14 @@ module _ {root : Board} {r : Room} {m : Memory} {c : Counts} {i : ℕ} {b : Boar
                 (subst (λ (x : ℕ). as_good (told (cost_in m.keys m.costs r.entries x)) (cost + moves) ≡ true) signs (ch.dropped q));
           }
 
-      module _ {slot : ℕ} (q : choice ≡ Slot slot) (short : cost + moves ≤ 200) where
+      module _ {slot : ℕ} (q : choice ≡ Some slot) (short : cost + moves ≤ 200) where
         fresh : as_good (told (cost_in m.keys m.costs r.entries (signature_of (shown board)))) (cost + moves) ≡ false
         fresh = subst (λ (x : ℕ). as_good (told (cost_in m.keys m.costs r.entries x)) (cost + moves) ≡ false) signs (ch.passes slot q)
 
         spot : Spot r m (signature_of (shown board)) slot
         spot = let there : Spot r m key slot = record { which = ch.spot slot q } in subst (λ (x : ℕ). Spot r m x slot) signs there
 
-        pub bear_full : r.capacity ≤ c.born → Bears root r m m c i move growth.OutOfNodes
+        pub bear_full : r.capacity ≤ c.born → Bears root r m m c i move None
         bear_full h = record { grew = tt; grows = bears_full s.machine child short fresh h }
 
         module _ (free : c.born < r.capacity) where
@@ -102,8 +100,8 @@ module _ {root : Board} {r : Room} {m : Memory} {c : Counts} {i : ℕ} {b : Boar
               }
 
           pub bear_born : {new : Memory} {d : Counts} → Wrote r m new c i move (cost + moves) slot (shown board) → d ≡ counted c (shown board)
-              → Bears root r m new c i move (growth.Grown d)
-          bear_born {new} w g = subst (λ (x : Counts). Bears root r m new c i move (growth.Grown x)) (sym g)
+              → Bears root r m new c i move (Some d)
+          bear_born {new} w g = subst (λ (x : Counts). Bears root r m new c i move (Some x)) (sym g)
               (record {
                 grew =
                     record {

@@ -1,5 +1,5 @@
 -- What the birth of children asks and promises.
-use Rattle.std.specs.Prelude.{◌≡◌, true, false, List, ◌⊎◌, ℕ, ◌<◌, ◌≤◌, length, get_or}
+use Rattle.std.specs.Prelude.{◌≡◌, true, false, List, ◌⊎◌, ℕ, ◌<◌, ◌≤◌, length, get_or, Some, Option, None}
 use Rattle.board.specs.Record.{shown}
 use Rattle.board.specs.Inner.{Sound}
 use Rattle.board.specs.declared.Board.{Board}
@@ -16,13 +16,9 @@ use Rattle.search.specs.Freecell.{freecell}
 use Rattle.search.specs.Solve.{as_good, bear, expand}
 use Rattle.memory.specs.declared.Room.{Room}
 use Rattle.memory.specs.declared.Counts.{Counts}
-use Rattle.memory.specs.declared.Growth.{Growth}
-use Rattle.memory.specs.declared.Growth.TheVariants as growth
 use Rattle.memory.specs.Memory.{Memory, Fits}
 use Rattle.memory.specs.View.{told, node_of, state_of, grown_of}
 use Rattle.memory.specs.Machine.{Machine}
-use Rattle.children.specs.declared.Choice.{Choice}
-use Rattle.children.specs.declared.Choice.TheVariants.{Dropped, Slot}
 
 -- parts of the same lengths
 pub record SameSize (m new : Memory) : Type 0 where
@@ -34,10 +30,10 @@ pub record SameSize (m new : Memory) : Type 0 where
 -- ---- one child
 
 -- what is known of a key against a cost: as good a one, or an entry to write to
-pub record Chooses (keys costs : List ℕ) (n k cost : ℕ) (choice : Choice) : Type 0 where
-  pub dropped : choice ≡ Dropped → as_good (told (cost_in keys costs n k)) cost ≡ true
-  pub passes : (slot : ℕ) → choice ≡ Slot slot → as_good (told (cost_in keys costs n k)) cost ≡ false
-  pub spot : (slot : ℕ) → choice ≡ Slot slot → Held keys costs n k slot ⊎ Vacant keys costs n k slot
+pub record Chooses (keys costs : List ℕ) (n k cost : ℕ) (choice : Option ℕ) : Type 0 where
+  pub dropped : choice ≡ None → as_good (told (cost_in keys costs n k)) cost ≡ true
+  pub passes : (slot : ℕ) → choice ≡ Some slot → as_good (told (cost_in keys costs n k)) cost ≡ false
+  pub spot : (slot : ℕ) → choice ≡ Some slot → Held keys costs n k slot ⊎ Vacant keys costs n k slot
 
 -- a child can be written
 pub record Birth (r : Room) (m : Memory) (c : Counts) (parent : ℕ) (move : Move) (cost slot key : ℕ) (child : Board) : Type 0 where
@@ -70,15 +66,15 @@ pub record Onward (root : Board) (r : Room) (m new : Memory) (c d : Counts) (i :
   pub pops : d.pops ≡ c.pops
 
 -- where there was no room for a child nothing more is known
-abbrev pub Grew : Board → Room → Memory → Memory → Counts → ℕ → Growth → Type 0
-Grew root r m new c i growth.OutOfNodes = Unit {0}
-Grew root r m new c i (growth.Grown d) = Onward root r m new c d i
+abbrev pub Grew : Board → Room → Memory → Memory → Counts → ℕ → Option Counts → Type 0
+Grew root r m new c i None = Unit {0}
+Grew root r m new c i (Some d) = Onward root r m new c d i
 
-pub record Bears (root : Board) (r : Room) (m new : Memory) (c : Counts) (i : ℕ) (move : Move) (g : Growth) : Type 0 where
+pub record Bears (root : Board) (r : Room) (m new : Memory) (c : Counts) (i : ℕ) (move : Move) (g : Option Counts) : Type 0 where
   pub grew : Grew root r m new c i g
   pub grows : bear freecell r.capacity (node_of (shown root) m.nodes i) move (state_of (shown root) r m c) ≡ grown_of (shown root) r new g
 
-pub record Expands (root : Board) (r : Room) (m new : Memory) (c : Counts) (i : ℕ) (g : Growth) : Type 0 where
+pub record Expands (root : Board) (r : Room) (m new : Memory) (c : Counts) (i : ℕ) (g : Option Counts) : Type 0 where
   pub grew : Grew root r m new c i g
   pub grows : expand freecell r.capacity (node_of (shown root) m.nodes i) (candidates (table_to (shown root) m.nodes i)) (state_of (shown root) r m c)
       ≡ grown_of (shown root) r new g

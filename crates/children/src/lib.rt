@@ -14,32 +14,20 @@ ghost use Rattle.memory.specs.Memory.{lent};
 
 use board::{Board, CODES};
 use candidates::TRIED_ROOM;
-use memory::{Counts, Growth, Room};
-use moves::{Decoded, MOST_MOVES, Move};
-
-// A child is dropped, or its cost goes to an entry of the table.
-#[derive(Clone, Copy)]
-pub enum Choice {
-    Dropped,
-    Slot(usize),
-}
+use memory::{Counts, Room};
+use moves::{MOST_MOVES, Move};
 
 // What is known for a key, against a cost.
-fn choose<'a>(keys: &'a [u64], costs: &'a [u8], room: Room, key: u64, cost: usize) -> Choice
+fn choose<'a>(keys: &'a [u64], costs: &'a [u8], room: Room, key: u64, cost: usize) -> Option<usize>
     requires table { Table keys.now costs.now room.entries }
     requires entries_bound { used costs.now room.entries < room.entries }
     ensures { Chooses keys.now costs.now room.entries key cost result }
 {
     match costs::find(keys, costs, room.entries, key) {
-        costs::Slot::At(i) => {
-            let known = base::wide(costs::cost_at(costs, i));
-            if known <= cost {
-                return Choice::Dropped;
-            }
-            Choice::Slot(i)
-        }
-        costs::Slot::Free(i) => Choice::Slot(i),
-        costs::Slot::Full => Choice::Dropped,
+        costs::Slot::At(i) if usize::from(costs::cost_at(costs, i)) <= cost => None,
+        costs::Slot::At(i) => Some(i),
+        costs::Slot::Free(i) => Some(i),
+        costs::Slot::Full => None,
     }
 }
 
@@ -49,24 +37,19 @@ fn count_birth(c: Counts, progress: usize) -> Counts
     requires waiting_le_born { c.waiting ≤ c.born }
     ensures { result ≡ counted_with c progress }
 {
-    let born = c.born + 1;
-    let waiting = c.waiting + 1;
+    let next = Counts {
+        born: c.born + 1,
+        waiting: c.waiting + 1,
+        ..c
+    };
     if c.progress < progress {
         return Counts {
-            born,
-            waiting,
             best: c.born,
             progress,
-            pops: c.pops,
+            ..next
         };
     }
-    Counts {
-        born,
-        waiting,
-        best: c.best,
-        progress: c.progress,
-        pops: c.pops,
-    }
+    next
 }
 
 // A child is written: its node, its entry in the table, its key among the waiting.
@@ -115,7 +98,7 @@ fn bear(
     heap: &mut [u64],
     keys: &mut [u64],
     costs: &mut [u8],
-) -> Growth
+) -> Option<Counts>
     requires stands { Stands root room (lent nodes.old heap.old keys.old costs.old) c i b }
     requires cost_value { cost ≡ cost_at nodes.old i }
     requires playable { Playable (shown b) m }
@@ -128,16 +111,16 @@ fn bear(
     let made = candidates::child_to(m, &mut cells, &mut foundation, &mut counts, &mut tableau);
     let total = cost + made;
     if MOST_MOVES < total {
-        return Growth::Grown(c);
+        return Some(c);
     }
     let key = signature::signature_at(&cells, &foundation, &counts, &tableau);
-    let Choice::Slot(slot) = choose(keys, costs, room, key, total) else {
-        return Growth::Grown(c);
+    let Some(slot) = choose(keys, costs, room, key, total) else {
+        return Some(c);
     };
     if room.capacity <= c.born {
-        return Growth::OutOfNodes;
+        return None;
     }
-    Growth::Grown(birth(
+    Some(birth(
         i,
         m,
         total,
@@ -170,7 +153,7 @@ fn bear_all(
     heap: &mut [u64],
     keys: &mut [u64],
     costs: &mut [u8],
-) -> Growth
+) -> Option<Counts>
     requires stands { Stands root room (lent nodes.old heap.old keys.old costs.old) c i b }
     requires cost_value { cost ≡ cost_at nodes.old i }
     requires records { Records list.now n }
@@ -178,21 +161,12 @@ fn bear_all(
     ensures { Expands root room (lent nodes.old heap.old keys.old costs.old) (lent nodes.new heap.new keys.new costs.new) c i result }
 {
     let mut counts = c;
-    let mut k = 0;
-    while k < n {
+    for k in 0..n {
         let from = k * 5;
-        let to = from + 5;
-        let Decoded::Is(m) = moves::decode(&list[from..to]) else {
-            return Growth::OutOfNodes;
-        };
-        let Growth::Grown(next) = bear(root, i, cost, b, m, room, counts, nodes, heap, keys, costs)
-        else {
-            return Growth::OutOfNodes;
-        };
-        counts = next;
-        k += 1;
+        let m = moves::decode(&list[from..from + 5])?;
+        counts = bear(root, i, cost, b, m, room, counts, nodes, heap, keys, costs)?;
     }
-    Growth::Grown(counts)
+    Some(counts)
 }
 
 // All children of node i.
@@ -207,7 +181,7 @@ pub fn expand(
     heap: &mut [u64],
     keys: &mut [u64],
     costs: &mut [u8],
-) -> Growth
+) -> Option<Counts>
     requires stands { Stands root room (lent nodes.old heap.old keys.old costs.old) c i b }
     requires cost_value { cost ≡ cost_at nodes.old i }
     ensures { Expands root room (lent nodes.old heap.old keys.old costs.old) (lent nodes.new heap.new keys.new costs.new) c i result }

@@ -5,7 +5,7 @@ use mathlib.Core.List.{List}
 use Prim.Native.Nat.{ℕ, ◌+◌, ◌-◌, ◌<◌}
 use native.Mathlib.Omega.{arith}
 use native.Mathlib.Decide.{ℕ_discrete}
-use borrow.Author.Tests.{eq-eqb, eqb-true, ltb-true, lt-ltb, le-ltb}
+use borrow.Author.Tests.{eq-eqb, eqb-true, lt-ltb, le-ltb}
 use lib.Dec.{eqb, ltb}
 use lib.ListN.{length, get_or, set}
 use lib.Seq.{get_or-set_same, get_or-set_other}
@@ -20,10 +20,6 @@ module _ (costs : List ℕ) (i : ℕ) where
   pub used_yes : (get_or costs i 0 ≡ 0 → ⊥) → is_used costs i ≡ true
   unfolding is_used
   used_yes d = lt-ltb 0 (get_or costs i 0) (omega arith)
-
-  pub used_above : is_used costs i ≡ true → 0 < get_or costs i 0
-  unfolding is_used
-  used_above e = ltb-true 0 (get_or costs i 0) e
 
 module _ (keys costs : List ℕ) (i : ℕ) where
   pub holds_free : (k : ℕ) → is_used costs i ≡ false → holds keys costs i k ≡ false

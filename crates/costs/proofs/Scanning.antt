@@ -8,13 +8,8 @@ use native.Mathlib.Decide.{dec_lt}
 use lib.ListN.{get_or}
 use Rattle.base.proofs.Words.{true_or_not}
 use Rattle.costs.specs.Entries.{is_used, holds}
-use Rattle.costs.specs.declared.Slot.TheVariants.{At, Free}
-use Rattle.costs.specs.Promises.{Passed, Scans, slot_at}
-use Rattle.costs.proofs.Entries.{used_not, used_yes}
-
-pub passed_none : (keys costs : List ℕ) (from k : ℕ) → Passed keys costs from from k
-passed_none keys costs from k =
-    record { low = omega arith; taken = λ j l m. absurd (let w : ⊥ = omega arith in w); others = λ j l m. absurd (let w : ⊥ = omega arith in w) }
+use Rattle.costs.specs.Promises.{Passed, Scans}
+use Rattle.costs.proofs.Entries.{used_not}
 
 module _ {keys costs : List ℕ} {from i k : ℕ} (p : Passed keys costs from i k) where
   last : {P : ℕ → Type 0} → ((j : ℕ) → from ≤ j → j < i → P j) → P i → (j : ℕ) → from ≤ j → j < i + 1 → P j
@@ -32,17 +27,3 @@ module _ {keys costs : List ℕ} {from i k : ℕ} (p : Passed keys costs from i 
     pub scans_free : i < end → get_or costs i 0 ≡ 0 → Scans keys costs from end k i
     scans_free l e =
         record { high = omega arith; passed = p; own = λ h u. true_or_not (is_used costs i) u (used_not costs i e) }
-
-    pub scans_held : i < end → holds keys costs i k ≡ true → Scans keys costs from end k i
-    scans_held l e = record { high = omega arith; passed = p; own = λ h u. e }
-
-    pub scans_end : i ≤ end → end ≤ i → Scans keys costs from end k i
-    scans_end l g = record { high = l; passed = p; own = λ h u. absurd (let w : ⊥ = omega arith in w) }
-
--- ---- what it stopped at
-
-pub slot_free : (costs : List ℕ) (i : ℕ) → get_or costs i 0 ≡ 0 → Free i ≡ slot_at costs i
-slot_free costs i e = rw (used_not costs i e)
-
-pub slot_taken : (costs : List ℕ) (i : ℕ) → (get_or costs i 0 ≡ 0 → ⊥) → At i ≡ slot_at costs i
-slot_taken costs i d = rw (used_yes costs i d)

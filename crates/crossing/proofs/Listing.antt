@@ -1,24 +1,27 @@
 -- Moves and the token in lent room, with their number behind a pointer.
+use Rattle.board.specs.Refusal.{number_of, answered}
+use Rattle.std.specs.Prelude.{Result, Err, Option, None}
+use Rattle.board.specs.declared.Refusal.{Refusal}
+use Rattle.board.specs.declared.Refusal.TheVariants.{OutOfRange}
+use Rattle.board.specs.Table.{Table}
+use Rattle.generate.specs.declared.Way.{Way}
 use mathlib.Core.Path.{◌≡◌, refl, sym, ap, ap₂, ◌∙◌}
 use mathlib.Core.Bool.{Bool, true, false}
 use mathlib.Core.List.{List}
 use Prim.Native.Nat.{ℕ}
-use borrow.Author.Tests.{ne_eqb}
 use lib.Dec.{leb}
 use lib.ListN.{length}
-use Rattle.base.specs.Answer.{Answer, given, refused, unless}
+use Rattle.base.specs.Answer.{Answer, given, refused, unless, given_or}
 use Rattle.board.specs.Verdict.{Verdict, after}
 use Rattle.board.specs.Record.{examined, shown}
 use Rattle.board.specs.declared.Board.{Board}
-use Rattle.questions.specs.Told.{count_told}
-use Rattle.questions.specs.declared.CountAnswer.{CountAnswer}
 use Rattle.moves.specs.declared.Move.{Move}
 use Rattle.generate.specs.Asked as generate
 use Rattle.score.specs.Asked as score
 use Rattle.features.specs.Features.{features_of}
 use Rattle.score.specs.Token.{token_of}
 use Rattle.crossing.specs.Crossing.{Left, left, crossed, within}
-use Rattle.crossing.specs.Lists.{list_left, way_asked, text_left}
+use Rattle.crossing.specs.Lists.{list_left, way_asked, found_by, text_left}
 use Rattle.crossing.specs.Values.{value_left}
 use Rattle.moves.specs.Written.{written}
 use Rattle.base.specs.Put.{over}
@@ -42,7 +45,7 @@ module _ {A : Type 0} (a : A) (f : A → Left (List ℕ × ℕ)) (need n c : ℕ
   by_verdict (given u) = by_test (leb need (length old))
   by_verdict (refused m) = ap (λ (l : List ℕ). left {A = List ℕ × ℕ} m (l, c)) (no m)
 
-module _ {b : Board} {old new : List ℕ} {r : CountAnswer} {k d : ℕ} (c : ℕ) (t : left k d ≡ value_left (count_told r) c) where
+module _ {b : Board} {old new : List ℕ} {r : Result ℕ Refusal} {k d : ℕ} (c : ℕ) (t : left k d ≡ value_left (answered r) c) where
   pub list_left_lem : {ms : List Move} → generate.Finds b ms old new r → left {A = List ℕ × ℕ} k (new, d) ≡ list_left (after (examined b) (given ms)) old c
   unfolding both list_left generate.found_asked
   list_left_lem {ms} x =
@@ -58,6 +61,8 @@ module _ {b : Board} {old new : List ℕ} {r : CountAnswer} {k d : ℕ} (c : ℕ
       (over (token_of (features_of (shown b))) old) refl (λ a. score.room_after a old (token_of (features_of (shown b)))) refl (λ m. refl) (examined b)
 
 -- a number that is no kind's
-pub no_way : (kind : ℕ) → (kind ≡ 1 → ⊥) → (kind ≡ 2 → ⊥) → (kind ≡ 3 → ⊥) → (kind ≡ 4 → ⊥) → (kind ≡ 5 → ⊥) → (kind ≡ 6 → ⊥) → refused 30 ≡ way_asked kind
-unfolding way_asked
-no_way kind a b c d e f = rw (ne_eqb kind 1 a, ne_eqb kind 2 b, ne_eqb kind 3 c, ne_eqb kind 4 d, ne_eqb kind 5 e, ne_eqb kind 6 f)
+pub no_kind : (t : Table) (kind : ℕ) {w : Option Way} {why : Refusal} → w ≡ None → ◌≡◌ {A = Result Way Refusal} (Err why) (Err OutOfRange)
+    → given_or 30 w ≡ way_asked kind → refused (number_of why) ≡ found_by t (way_asked kind)
+no_kind t kind {why = why} none same e =
+    let z : why ≡ OutOfRange = cc in
+    ap (λ (x : Refusal). refused (number_of x)) z ∙ ap (found_by t) (ap (given_or 30) (sym none) ∙ e)

@@ -2,11 +2,11 @@
 use mathlib.Core.Path.{◌≡◌, sym, ap, ◌∙◌}
 use mathlib.Core.Bool.{Bool}
 use mathlib.Core.List.{List, ◌++◌, append_assoc}
-use Prim.Native.Nat.{ℕ, ◌+◌}
+use Prim.Native.Nat.{ℕ, ◌+◌, ◌≤◌}
 use native.Mathlib.Omega.{arith}
 use borrow.Author.Tests.{eq-eqb}
 use lib.ListN.{length, take, drop, length-append, length-drop, take-append-drop}
-use lib.Seq.{take_at, drop_at, take_all, drop-drop}
+use lib.Seq.{take_at, drop_at, take_all, drop-drop, length-take-le}
 use Rattle.base.specs.Answer.{Answer, given, unless}
 use Rattle.board.specs.Record.{examined, laid, tableau_room}
 use Rattle.board.specs.Inner.{Sized}
@@ -79,6 +79,15 @@ module _ (b : Board) (z : Sized b) where
   pub asked_back : {A : Type 0} (question : Board → Answer A) → asked (bytes_of b) question ≡ question b
   asked_back question =
       ap (λ (ok : Bool). unless ok 12 (question (board_in (bytes_of b)))) (eq-eqb (length (bytes_of b)) 432 bytes_long) ∙ ap question board_back
+
+-- the parts of a board that bytes are have their lengths
+pub sized_in : (bytes : List ℕ) → length bytes ≡ 432 → Sized (board_in bytes)
+unfolding board_in
+sized_in bytes e =
+    record { four = part 4 0 (omega arith); piles = part 4 4 (omega arith); eight = part 8 8 (omega arith); full = part tableau_room 16 (omega arith) }
+  where
+    part : (n at : ℕ) → at + n ≤ 432 → length (take n (drop at bytes)) ≡ n
+    part n at h = length-take-le n (drop at bytes) (let d = length-drop at bytes in omega arith)
 
 -- into the bytes goes what came out of them
 pub bytes_back : (bytes : List ℕ) → length bytes ≡ 432 → bytes_of (board_in bytes) ≡ bytes

@@ -1,14 +1,9 @@
 -- Every promise here, and every promise of the functions that C calls, allows one result only: each is an equation whose left side is all
 -- that the call hands back and leaves.
-use mathlib.Core.Path.{◌≡◌, refl, ap}
+use mathlib.Core.Path.{◌≡◌, ap}
 use Prim.Native.Nat.{ℕ}
-use Rattle.base.specs.Answer.{Answer, given, refused}
-use Rattle.base.proofs.Unique.{once, told_once}
-use Rattle.generate.specs.declared.Way.{Way}
+use Rattle.base.proofs.Unique.{once}
 use Rattle.crossing.specs.Crossing.{Left, left}
-use Rattle.crossing.specs.Lists.{way_told}
-use Rattle.crossing.specs.declared.WayAnswer.{WayAnswer}
-use Rattle.crossing.specs.declared.WayAnswer.TheVariants.{Is, NoWay}
 
 -- the number and the lent places, however many
 pub left_once : {A : Type 0} {r s : ℕ} {p q : A} {d : Left A} → left r p ≡ d → left s q ≡ d → (r ≡ s) × (p ≡ q)
@@ -19,16 +14,3 @@ pub left_twice : {A B : Type 0} {r s : ℕ} {p q : A} {x y : B} {d : Left (A × 
 left_twice {A} {B} e f =
     let both = left_once e f in
     (both.0, (ap (λ (z : A × B). z.0) both.1, ap (λ (z : A × B). z.1) both.1))
-
--- of `way_of`
-back : Answer Way → WayAnswer
-back (given w) = Is w
-back (refused n) = NoWay
-
-law : (r : WayAnswer) → back (way_told r) ≡ r
-unfolding back
-law (Is w) = refl
-law NoWay = refl
-
-pub way_once : {a : Answer Way} {r s : WayAnswer} → way_told r ≡ a → way_told s ≡ a → r ≡ s
-way_once = told_once way_told back law

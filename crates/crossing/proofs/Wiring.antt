@@ -1,77 +1,44 @@
--- A board goes into bytes and comes out of them, part after part.
-use mathlib.Core.Path.{◌≡◌, sym, ap, ◌∙◌}
-use mathlib.Core.List.{List, ◌++◌, append-nil}
-use Prim.Native.Nat.{ℕ, ◌+◌, ◌≤◌}
+-- A board goes into bytes, part after part.
+use mathlib.Core.Path.{◌≡◌, sym, ap, ap₂, ◌∙◌}
+use mathlib.Core.List.{List, ◌++◌, append_assoc}
+use Prim.Native.Nat.{ℕ, ◌+◌}
 use native.Mathlib.Omega.{arith}
-use lib.ListN.{length, take, drop, length-drop, drop_of_length-le}
-use lib.Seq.{length-take-le}
+use borrow.Rule.Slice.PartMut.{put_mid}
+use lib.ListN.{length, drop, length-append}
+use lib.Seq.{drop-drop, take_at, drop_at}
 use Rattle.board.specs.Inner.{Sized}
 use Rattle.board.specs.declared.Board.{Board}
-use Rattle.base.specs.Put.{Puts, over}
-use Rattle.base.proofs.Putting.{puts_long, puts_more, puts_over}
-use Rattle.crossing.specs.Wire.{board_in, bytes_of}
-use Rattle.board.specs.Record.{laid, tableau_room}
+use Rattle.base.specs.Put.{over}
+use Rattle.crossing.specs.Wire.{bytes_of}
 
--- ---- out of the bytes
+-- a part written behind a front
+part_put : (front rest part : List ℕ) (at k : ℕ) → length front ≡ at → put_mid at k (front ++ rest) part ≡ (front ++ part) ++ drop k rest
+part_put front rest part at k e =
+    ap₂ (λ (x y : List ℕ). x ++ (part ++ drop k y)) (take_at front rest at e) (drop_at front rest at e) ∙ sym (append_assoc front part (drop k rest))
 
--- an array that was written from end to end
-put_whole : {old new s : List ℕ} {r : ℕ} → length s ≡ length old → Puts old new 0 r s → new ≡ s
-unfolding over
-put_whole {old} {new} {s} e p = puts_over p ∙ ap (λ (l : List ℕ). s ++ l) (drop_of_length-le old {i = length s} (omega arith)) ∙ append-nil s
+module _ (b : Board) (z : Sized b) (old : List ℕ) where
+  parts : put_mid 16 416 (put_mid 8 8 (put_mid 4 4 (b.cells ++ drop 4 old) b.foundation) b.counts) b.tableau ≡ over (bytes_of b) old
+  unfolding over bytes_of
+  parts =
+      let four = z.four in
+      let piles = z.piles in
+      let eight = z.eight in
+      let full = z.full in
+      let two = length-append b.cells b.foundation in
+      let three = length-append (b.cells ++ b.foundation) b.counts in
+      let all = length-append (b.cells ++ b.foundation ++ b.counts) b.tableau in
+      let same = append_assoc (b.cells ++ b.foundation) b.counts b.tableau ∙ append_assoc b.cells b.foundation (b.counts ++ b.tableau) in
+      let long = ap length same in
+      ap (λ (l : List ℕ). put_mid 16 416 (put_mid 8 8 l b.counts) b.tableau) (part_put b.cells (drop 4 old) b.foundation 4 4 four)
+      ∙ ap (λ (l : List ℕ). put_mid 16 416 l b.tableau) (part_put (b.cells ++ b.foundation) (drop 4 (drop 4 old)) b.counts 8 8 (omega arith))
+      ∙ part_put (b.cells ++ b.foundation ++ b.counts) (drop 8 (drop 4 (drop 4 old))) b.tableau 16 416 (omega arith)
+      ∙ ap₂ (λ (x y : List ℕ). x ++ y) same
+      (drop-drop 416 8 (drop 4 (drop 4 old)) ∙ drop-drop (8 + 416) 4 (drop 4 old) ∙ drop-drop (4 + (8 + 416)) 4 old
+      ∙ ap (λ (n : ℕ). drop n old) (let q : 4 + (4 + (8 + 416)) ≡ length (b.cells ++ (b.foundation ++ (b.counts ++ b.tableau))) = omega arith in q))
 
-part_long : (bytes : List ℕ) (k at : ℕ) → at + k ≤ length bytes → length (take k (drop at bytes)) ≡ k
-part_long bytes k at h = length-take-le k (drop at bytes) (let d = length-drop at bytes in omega arith)
-
-module _ (bytes : List ℕ) (whole : length bytes ≡ 432) where
-  part_put : (k at : ℕ) {old new : List ℕ} {r : ℕ} → at + k ≤ 432 → length old ≡ k → Puts old new 0 r (take k (drop at bytes)) → new ≡ take k (drop at bytes)
-  part_put k at h e p = put_whole (part_long bytes k at (omega arith) ∙ sym e) p
-
-  pub board_read : {o p q s cells foundation counts tableau : List ℕ} {i j k l : ℕ}
-      → length o ≡ 4 → Puts o cells 0 i (take 4 (drop 0 bytes)) → length p ≡ 4 → Puts p foundation 0 j (take 4 (drop 4 bytes))
-      → length q ≡ 8 → Puts q counts 0 k (take 8 (drop 8 bytes)) → length s ≡ tableau_room → Puts s tableau 0 l (take tableau_room (drop 16 bytes))
-      → laid cells foundation counts tableau ≡ board_in bytes
-  unfolding board_in
-  board_read lo po lp pp lq pq ls ps =
-      let a = part_put 4 0 (omega arith) lo po in
-      let b = part_put 4 4 (omega arith) lp pp in
-      let c = part_put 8 8 (omega arith) lq pq in
-      let d = part_put tableau_room 16 (omega arith) ls ps in
-      cc
-
--- ---- into the bytes
-
-module _ (b : Board) (z : Sized b) (old : List ℕ) (room : 432 ≤ length old) where
-  pub cells_room : 0 + length b.cells ≤ length old
-  cells_room = let x = z.four in omega arith
-
-  module _ {one : List ℕ} {i : ℕ} (p : Puts old one 0 i b.cells) where
-    one_long : length one ≡ length old
-    one_long = puts_long cells_room p
-
-    pub foundation_room : i + length b.foundation ≤ length one
-    foundation_room = let x = z.four in let y = z.piles in let l = one_long in let e = p.after in omega arith
-
-    module _ {two : List ℕ} {j : ℕ} (q : Puts one two i j b.foundation) where
-      two_long : length two ≡ length old
-      two_long = puts_long foundation_room q ∙ one_long
-
-      pub counts_room : j + length b.counts ≤ length two
-      counts_room =
-          let x = z.four in let y = z.piles in let w = z.eight in let l = two_long in let e = p.after in let f = q.after in omega arith
-
-      module _ {three : List ℕ} {k : ℕ} (r : Puts two three j k b.counts) where
-        pub tableau_room_lem : k + length b.tableau ≤ length three
-        tableau_room_lem =
-            let x = z.four in
-            let y = z.piles in
-            let w = z.eight in
-            let v = z.full in
-            let l = puts_long counts_room r ∙ two_long in
-            let e = p.after in
-            let f = q.after in
-            let g = r.after in
-            omega arith
-
-        pub board_put : {new : List ℕ} {n : ℕ} → Puts three new k n b.tableau → new ≡ over (bytes_of b) old
-        unfolding bytes_of
-        board_put s = puts_over (puts_more cells_room p (puts_more foundation_room q (puts_more counts_room r s)))
+  pub board_put : {one two three four : List ℕ} → one ≡ b.cells → two ≡ b.foundation → three ≡ b.counts → four ≡ b.tableau
+      → put_mid 16 416 (put_mid 8 8 (put_mid 4 4 (one ++ drop 4 old) two) three) four ≡ over (bytes_of b) old
+  board_put {one} {two} {three} {four} p q r s =
+      ap₂ (λ (x y : List ℕ). put_mid 16 416 (put_mid 8 8 (put_mid 4 4 (x ++ drop 4 old) y) three) four) p q
+      ∙ ap₂ (λ (x y : List ℕ). put_mid 16 416 (put_mid 8 8 (put_mid 4 4 (b.cells ++ drop 4 old) b.foundation) x) y) r s
+      ∙ parts

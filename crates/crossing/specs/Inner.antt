@@ -1,24 +1,34 @@
 -- What the functions inside ask of each other.
-use Rattle.std.specs.Prelude.{◌≡◌, true}
+use Rattle.card.specs.declared.Card.{Card}
+use Rattle.moves.specs.declared.Move.{Move}
+use Rattle.base.specs.Answer.{Answer, given, refused}
+use Rattle.board.specs.Refusal.{number_of, answered}
+use Rattle.board.specs.declared.Refusal.{Refusal}
+use Rattle.replay.specs.Line.{Ending}
+use Rattle.replay.specs.declared.Replayed.{Replayed}
+use Rattle.std.specs.Prelude.{◌≡◌, true, Some, Err, Ok, Option, None, Result}
 use Rattle.card.specs.Card.{is_value}
-use Rattle.questions.specs.declared.Top.{Top}
-use Rattle.questions.specs.declared.Top.TheVariants.{Is, Empty}
-use Rattle.questions.specs.declared.TopAnswer.{TopAnswer}
-use Rattle.questions.specs.declared.TopAnswer.TheVariants.{Shows, Refused}
 use Rattle.moves.specs.Move.{sayable}
-use Rattle.safe.specs.declared.SafeMove.{SafeMove}
-use Rattle.safe.specs.declared.SafeMove.TheVariants as safe
 
 -- what is shown is a card that has a code
-abbrev pub Coded : Top → Type 0
-Coded (Is c) = is_value c.value ≡ true
-Coded Empty = Unit {0}
+abbrev pub Coded : Option Card → Type 0
+Coded (Some c) = is_value c.value ≡ true
+Coded None = Unit {0}
 
-abbrev pub CodedAnswer : TopAnswer → Type 0
-CodedAnswer (Shows t) = Coded t
-CodedAnswer (Refused why) = Unit {0}
+abbrev pub CodedAnswer : Result (Option Card) Refusal → Type 0
+CodedAnswer (Ok t) = Coded t
+CodedAnswer (Err why) = Unit {0}
 
 -- the move, if there is one, has a record
-abbrev pub Said : SafeMove → Type 0
-Said (safe.Is m) = sayable m ≡ true
-Said safe.NoMove = Unit {0}
+abbrev pub Said : Option Move → Type 0
+Said (Some m) = sayable m ≡ true
+Said None = Unit {0}
+
+abbrev pub SaidAnswer : Result (Option Move) Refusal → Type 0
+SaidAnswer (Ok first) = Said first
+SaidAnswer (Err why) = Unit {0}
+
+-- where a line of moves ended
+abbrev pub ended : Result Replayed Refusal → Answer Ending
+ended (Ok r) = given (record { verdict = answered r.said; moves = r.moves; board = r.board })
+ended (Err why) = refused (number_of why)

@@ -16,8 +16,6 @@ use Rattle.base.specs.Put.{over}
 use Rattle.score.specs.Asked.{token_room}
 use Rattle.candidates.specs.Candidates.{candidates}
 use Rattle.crossing.specs.Crossing.{Left, left, crossed, asked, within}
-use Rattle.crossing.specs.declared.WayAnswer.{WayAnswer}
-use Rattle.crossing.specs.declared.WayAnswer.TheVariants.{Is, NoWay}
 
 -- the records of some moves, and their number
 unfoldable pub list_left : Answer (List Move) → List ℕ → ℕ → Left (List ℕ × ℕ)
@@ -34,11 +32,6 @@ way_asked kind =
     (cond (eqb kind 2) (given ColumnToHome)
     (cond (eqb kind 3) (given ColumnToCell)
     (cond (eqb kind 4) (given CellToColumn) (cond (eqb kind 5) (given CellToHome) (cond (eqb kind 6) (given HomeToColumn) (refused 30))))))
-
--- what each case of the code's answer means
-abbrev pub way_told : WayAnswer → Answer Way
-way_told (Is w) = given w
-way_told NoWay = refused 30
 
 -- the allowed moves of a kind
 abbrev pub found_by : Table → Answer Way → Answer (List Move)

@@ -1,27 +1,24 @@
 -- The plain questions that a table asks about a board: each tells one number behind a pointer, or writes one move.
-use Rattle.std.specs.Prelude.{Bool, cond, List, [], ◌∷◌, ℕ, length}
+use Rattle.card.specs.declared.Card.{Card}
+use Rattle.std.specs.Prelude.{Bool, cond, List, [], ◌∷◌, ℕ, length, Some, Option, None}
 use Rattle.base.specs.Answer.{Answer, given}
 use Rattle.board.specs.Verdict.{after}
 use Rattle.board.specs.Record.{examined, shown}
 use Rattle.card.specs.Card.{code_of}
 use Rattle.questions.specs.Questions.{top_asked, cell_asked, foundation_asked, won_asked}
-use Rattle.questions.specs.declared.Top.{Top}
-use Rattle.questions.specs.declared.Top.TheVariants.{Is, Empty}
 use Rattle.rules.specs.Asked.{most_asked}
 use Rattle.moves.specs.declared.Move.{Move}
 use Rattle.moves.specs.Written.{written}
 use Rattle.safe.specs.Safe.{first_safe}
-use Rattle.safe.specs.declared.SafeMove.{SafeMove}
-use Rattle.safe.specs.declared.SafeMove.TheVariants as safe
 use Rattle.crossing.specs.Crossing.{Left, left, crossed, asked, within}
 use Rattle.crossing.specs.Values.{value_left}
 
 -- the code of the card that lies on top, 255 if there is none
-abbrev pub top_code : Top → ℕ
-top_code (Is c) = code_of c
-top_code Empty = 255
+abbrev pub top_code : Option Card → ℕ
+top_code (Some c) = code_of c
+top_code None = 255
 
-abbrev pub code_left : Answer Top → ℕ → Left ℕ
+abbrev pub code_left : Answer (Option Card) → ℕ → Left ℕ
 code_left a old = crossed a old (λ t. left 0 (top_code t))
 
 -- the top of a column, and a cell: 12 to 15, then 30 for a place that is none
@@ -49,11 +46,15 @@ won_left board old = yes_left (asked board won_asked) old
 -- ---- the first safe move
 
 -- the moves of an answer: one, or none
-abbrev pub safe_moves : SafeMove → List Move
-safe_moves (safe.Is m) = m ∷ []
-safe_moves safe.NoMove = []
+abbrev pub safe_moves : Option Move → List Move
+safe_moves (Some m) = m ∷ []
+safe_moves None = []
 
--- its record at the start of the room, and 1; or 0 and nothing written. 12 to 15, then 21 for room under five bytes
+-- its record at the start of the room, and 1; or 0 and nothing written; 21 for room under five bytes
+abbrev pub first_left : Answer (Option Move) → List ℕ → ℕ → Left (List ℕ × ℕ)
+first_left a room n =
+    crossed (within 5 (length room) a) (room, n) (λ m. left 0 (written room 0 (safe_moves m), length (safe_moves m)))
+
+-- 12 to 15, then 21
 unfoldable pub safe_left : List ℕ → List ℕ → ℕ → Left (List ℕ × ℕ)
-safe_left board room n =
-    crossed (within 5 (length room) (asked board (λ b. after (examined b) (given (first_safe (shown b)))))) (room, n) (λ m. left 0 (written room 0 (safe_moves m), length (safe_moves m)))
+safe_left board room n = first_left (asked board (λ b. after (examined b) (given (first_safe (shown b))))) room n

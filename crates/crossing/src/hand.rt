@@ -1,81 +1,100 @@
-// Boards and features handed back at the start of lent room; with too little room nothing is written, and 21 is told.
-ghost use Rattle.std.specs.Prelude.{◌≡◌, ◌≤◌, length};
-ghost use Rattle.base.specs.Answer.{given};
-ghost use Rattle.board.specs.Refusal.{examined_told};
-ghost use Rattle.intake.specs.Handed.{board_told};
-ghost use Rattle.base.specs.Put.{over};
-ghost use Rattle.crossing.specs.Crossing.{left};
+// What is handed back at the start of lent room; with too little room nothing is written, and 21 is told.
+ghost use Rattle.std.specs.Prelude.{◌≡◌};
+ghost use Rattle.board.specs.Refusal.{answered};
+ghost use Rattle.crossing.specs.Crossing.{left, within};
 ghost use Rattle.crossing.specs.Boards.{board_left, line_left};
-ghost use Rattle.crossing.specs.Values.{numbers_of};
-ghost use Rattle.crossing.specs.Questions.{safe_moves};
-ghost use Rattle.crossing.specs.Inner.{Said};
-ghost use Rattle.moves.specs.Written.{written};
+ghost use Rattle.crossing.specs.Values.{numbers_left};
+ghost use Rattle.crossing.specs.Questions.{first_left};
+ghost use Rattle.crossing.specs.Inner.{SaidAnswer, ended};
 
 use crate::{tell, wire};
-use board::{Board, Examined};
+use board::{Board, Refusal};
 use features::Features;
-use safe::SafeMove;
+use moves::Move;
+use replay::Replayed;
 
-// A board, unless it was refused.
-pub fn board(said: Examined, b: Board, room: &mut [u8]) -> u8
-    ensures { left result room.new ≡ board_left (board_told said b) room.old }
+// How many numbers the features are, and how many bytes a move is.
+const FEATURES: usize = 7;
+
+const RECORD: usize = 5;
+
+// An answer that needs so much of the lent room.
+fn within<T: Copy>(need: usize, lent: usize, answer: Result<T, Refusal>) -> Result<T, Refusal>
+    ensures { answered result ≡ within need lent (answered answer) }
 {
-    if let Examined::Refused(why) = said {
-        return board::number(why);
+    let given = answer?;
+    if lent < need {
+        return Err(Refusal::LittleRoom);
     }
-    if room.len() < wire::BYTES {
-        return 21;
-    }
-    wire::put_board(b, room);
-    0
+    Ok(given)
 }
 
-// The board where a line ended, and the number of moves played.
-pub fn line(said: Examined, b: Board, n: usize, room: &mut [u8], moves: &mut usize) -> u8
-    ensures { left result (room.new, moves.new) ≡ line_left (given (record { verdict = examined_told said; moves = n; board = b })) room.old moves.old }
+// A board, unless it was refused.
+#[tactic(auto, unfolding(crate::specs::Boards::board_left))]
+pub fn board(answer: Result<Board, Refusal>, room: &mut [u8]) -> u8
+    ensures { left result room.new ≡ board_left (answered answer) room.old }
 {
-    if room.len() < wire::BYTES {
-        return 21;
+    match within(wire::BYTES, room.len(), answer) {
+        Ok(b) => {
+            wire::put_board(b, room);
+            0
+        }
+        Err(why) => board::number(why),
     }
-    wire::put_board(b, room);
-    *moves = n;
-    tell::verdict(said)
+}
+
+// The board where a line ended, and the number of moves played; the number is that of the move that stopped it, if one did.
+#[tactic(auto, unfolding(crate::specs::Boards::line_left))]
+pub fn line(answer: Result<Replayed, Refusal>, room: &mut [u8], moves: &mut usize) -> u8
+    ensures { left result (room.new, moves.new) ≡ line_left (ended answer) room.old moves.old }
+{
+    match within(wire::BYTES, room.len(), answer) {
+        Ok(end) => {
+            wire::put_board(end.board, room);
+            *moves = end.moves;
+            tell::verdict(end.said)
+        }
+        Err(why) => board::number(why),
+    }
 }
 
 // The seven features, in the record's order.
-pub fn features(f: Features, room: &mut [u64])
-    requires { 7 ≤ length room.old }
-    ensures { room.new ≡ over (numbers_of f) room.old }
+#[tactic(auto, unfolding(base::specs::Put::over, crate::specs::Values::numbers_left))]
+pub fn features(answer: Result<Features, Refusal>, room: &mut [u64]) -> u8
+    ensures { left result room.new ≡ numbers_left (answered answer) room.old }
 {
-    let home = f.home as u64;
-    let immediate = f.immediate as u64;
-    let blocked = f.blocked as u64;
-    let imbalance = f.imbalance as u64;
-    let used = f.used as u64;
-    let empty = f.empty as u64;
-    let longest = f.longest as u64;
-    room[0] = home;
-    room[1] = immediate;
-    room[2] = blocked;
-    room[3] = imbalance;
-    room[4] = used;
-    room[5] = empty;
-    room[6] = longest;
+    match within(FEATURES, room.len(), answer) {
+        Ok(f) => {
+            room[..FEATURES].copy_from_slice(&[
+                f.home as u64,
+                f.immediate as u64,
+                f.blocked as u64,
+                f.imbalance as u64,
+                f.used as u64,
+                f.empty as u64,
+                f.longest as u64,
+            ]);
+            0
+        }
+        Err(why) => board::number(why),
+    }
 }
 
 // The record of a safe move, if there is one, and how many there are: one or none.
-pub fn safe_move(first: SafeMove, bytes: &mut [u8], count: &mut usize)
-    requires said { Said first }
-    requires in_bounds { 5 ≤ length bytes.old }
-    ensures bytes_after { bytes.new ≡ written bytes.old 0 (safe_moves first) }
-    ensures count_after { count.new ≡ length (safe_moves first) }
+#[tactic(auto, using(moves::proofs::Writing::written_none))]
+pub fn safe_move(answer: Result<Option<Move>, Refusal>, bytes: &mut [u8], count: &mut usize) -> u8
+    requires { SaidAnswer answer }
+    ensures { left result (bytes.new, count.new) ≡ first_left (answered answer) bytes.old count.old }
 {
-    match first {
-        SafeMove::Is(m) => {
+    match within(RECORD, bytes.len(), answer) {
+        Ok(Some(m)) => {
             *count = moves::write(bytes, 0, m);
+            0
         }
-        SafeMove::NoMove => {
+        Ok(None) => {
             *count = 0;
+            0
         }
+        Err(why) => board::number(why),
     }
 }

@@ -2,15 +2,6 @@
 // told behind pointers (tell).
 #![tactic(auto)]
 
-use generate::Way;
-
 pub mod hand;
 pub mod tell;
 pub mod wire;
-
-// A kind of move asked for by its number.
-#[derive(Clone, Copy)]
-pub enum WayAnswer {
-    Is(Way),
-    NoWay,
-}

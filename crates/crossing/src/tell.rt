@@ -1,155 +1,95 @@
 // What an answer is to C: its number, and what it tells behind a pointer; a refusal tells its number alone.
 ghost use Rattle.std.specs.Prelude.{◌≡◌};
-ghost use Rattle.board.specs.Refusal.{examined_told};
-ghost use Rattle.questions.specs.Told.{count_told, top_told, won_told};
-ghost use Rattle.score.specs.Asked.{score_told};
-ghost use Rattle.signature.specs.Signed.{signature_told};
+ghost use Rattle.base.specs.Answer.{given_or};
+ghost use Rattle.board.specs.Refusal.{answered};
 ghost use Rattle.crossing.specs.Crossing.{left, told};
-ghost use Rattle.crossing.specs.Numbers.{is_answer};
-ghost use Rattle.crossing.specs.Lists.{way_asked, way_told};
+ghost use Rattle.crossing.specs.Lists.{way_asked};
 ghost use Rattle.crossing.specs.Papers.{count_left};
 ghost use Rattle.crossing.specs.Values.{value_left};
 ghost use Rattle.crossing.specs.Questions.{top_code, code_left, yes_left};
 ghost use Rattle.crossing.specs.Inner.{Coded, CodedAnswer};
 ghost use Rattle.sense.specs.Outcome.{line_told};
 
-use crate::WayAnswer;
-use board::Examined;
+use board::Refusal;
+use card::Card;
 use generate::Way;
-use questions::{CountAnswer, Top, TopAnswer, WonAnswer};
-use score::ScoreAnswer;
-use sense::LineAnswer;
-use signature::SignatureAnswer;
+use sense::LineError;
 
 // 0, or the number of a refusal.
-pub fn verdict(e: Examined) -> u8
-    ensures { result ≡ told (examined_told e) }
+pub fn verdict(e: Result<(), Refusal>) -> u8
+    ensures { result ≡ told (answered e) }
 {
     match e {
-        Examined::WellFormed => 0,
-        Examined::Refused(why) => board::number(why),
+        Ok(()) => 0,
+        Err(why) => board::number(why),
     }
 }
 
-// A count of moves or bytes.
-pub fn count(answer: CountAnswer, to: &mut usize) -> u8
-    ensures { left result to.new ≡ value_left (count_told answer) to.old }
+// Whatever was asked for.
+pub fn value<T: Copy>(answer: Result<T, Refusal>, to: &mut T) -> u8
+    ensures { left result to.new ≡ value_left (answered answer) to.old }
 {
     match answer {
-        CountAnswer::Count(n) => {
-            *to = n;
+        Ok(x) => {
+            *to = x;
             0
         }
-        CountAnswer::Refused(why) => board::number(why),
+        Err(why) => board::number(why),
     }
 }
 
 // How many moves or bytes a line has, or the place that a refusal tells.
-pub fn line(answer: LineAnswer, to: &mut usize) -> u8
+pub fn line(answer: Result<usize, LineError>, to: &mut usize) -> u8
     ensures { left result to.new ≡ count_left (line_told answer) to.old }
 {
     match answer {
-        LineAnswer::Count(n) => {
+        Ok(n) => {
             *to = n;
             0
         }
-        LineAnswer::Refused(why) => board::number(why),
-        LineAnswer::RefusedAt(why, place) => {
+        Err(LineError::Refused(why)) => board::number(why),
+        Err(LineError::At(why, place)) => {
             *to = place;
             board::number(why)
         }
     }
 }
 
-// A signed score.
-pub fn score(answer: ScoreAnswer, to: &mut i64) -> u8
-    ensures { left result to.new ≡ value_left (score_told answer) to.old }
-{
-    match answer {
-        ScoreAnswer::Score(n) => {
-            *to = n;
-            0
-        }
-        ScoreAnswer::Refused(why) => board::number(why),
-    }
-}
-
 // The code of what lies on top; 255 for nothing.
-fn code(t: Top) -> u8
+fn code(t: Option<Card>) -> u8
     requires { Coded t }
     ensures { result ≡ top_code t }
 {
-    match t {
-        Top::Is(card) => card::code_of(card),
-        Top::Empty => 255,
-    }
+    t.map_or(255, card::code_of)
 }
 
 // What lies on a column or in a cell.
-pub fn top(answer: TopAnswer, to: &mut u8) -> u8
+pub fn top(answer: Result<Option<Card>, Refusal>, to: &mut u8) -> u8
     requires { CodedAnswer answer }
-    ensures { left result to.new ≡ code_left (top_told answer) to.old }
+    ensures { left result to.new ≡ code_left (answered answer) to.old }
 {
-    match answer {
-        TopAnswer::Shows(t) => {
-            *to = code(t);
-            0
-        }
-        TopAnswer::Refused(why) => board::number(why),
-    }
+    value(answer.map(code), to)
 }
 
 // Yes or no.
-pub fn won(answer: WonAnswer, to: &mut u8) -> u8
-    ensures { left result to.new ≡ yes_left (won_told answer) to.old }
+pub fn won(answer: Result<bool, Refusal>, to: &mut u8) -> u8
+    ensures { left result to.new ≡ yes_left (answered answer) to.old }
 {
-    match answer {
-        WonAnswer::Won => {
-            *to = 1;
-            0
-        }
-        WonAnswer::NotWon => {
-            *to = 0;
-            0
-        }
-        WonAnswer::Refused(why) => board::number(why),
-    }
-}
-
-// A signature.
-pub fn signature(answer: SignatureAnswer, to: &mut u64) -> u8
-    ensures { left result to.new ≡ value_left (signature_told answer) to.old }
-{
-    match answer {
-        SignatureAnswer::Signature(n) => {
-            *to = n;
-            0
-        }
-        SignatureAnswer::Refused(why) => board::number(why),
-    }
-}
-
-// 0 to 5 and 23 are answers.
-pub fn is_answer(number: u8) -> bool
-    ensures { result ≡ is_answer number }
-{
-    if number <= 5 {
-        return true;
-    }
-    number == 23
+    value(answer.map(u8::from), to)
 }
 
 // The kind of move with this number, as in a move record.
-pub fn way_of(kind: u8) -> WayAnswer
-    ensures { way_told result ≡ way_asked kind }
+#[tactic(auto, unfolding(crate::specs::Lists::way_asked))]
+pub fn way_of(kind: u8) -> Option<Way>
+    ensures { given_or 30 result ≡ way_asked kind }
 {
     match kind {
-        1 => WayAnswer::Is(Way::ColumnToColumn),
-        2 => WayAnswer::Is(Way::ColumnToHome),
-        3 => WayAnswer::Is(Way::ColumnToCell),
-        4 => WayAnswer::Is(Way::CellToColumn),
-        5 => WayAnswer::Is(Way::CellToHome),
-        6 => WayAnswer::Is(Way::HomeToColumn),
-        _ => WayAnswer::NoWay,
+        1 => Some(Way::ColumnToColumn),
+        2 => Some(Way::ColumnToHome),
+        3 => Some(Way::ColumnToCell),
+        4 => Some(Way::CellToColumn),
+        5 => Some(Way::CellToHome),
+        6 => Some(Way::HomeToColumn),
+        _ => None,
     }
 }

@@ -1,35 +1,19 @@
 -- Bytes that are a well-formed board, and what is asked of one.
-use mathlib.Core.Path.{◌≡◌, refl, ap, ◌∙◌}
+use mathlib.Core.Path.{◌≡◌, ap, ◌∙◌}
 use mathlib.Core.Bool.{Bool}
 use mathlib.Core.List.{List}
-use Prim.Native.Nat.{ℕ, ◌+◌, ◌≤◌}
-use native.Mathlib.Omega.{arith}
+use Prim.Native.Nat.{ℕ}
 use borrow.Author.Tests.{eq-eqb}
-use lib.ListN.{length, take, drop, length-drop}
-use lib.Seq.{length-take-le}
-use Rattle.base.specs.Answer.{Answer, given, refused, unless}
+use lib.ListN.{length, take}
+use Rattle.base.specs.Answer.{Answer, refused, unless}
 use Rattle.board.specs.Verdict.{Verdict, fine, after}
-use Rattle.board.specs.Record.{examined, tableau_room}
-use Rattle.board.specs.Inner.{Sized}
+use Rattle.board.specs.Record.{examined}
 use Rattle.board.specs.declared.Board.{Board}
 use Rattle.board.proofs.Fair.{accepted_fair, fair_accepted}
 use Rattle.crossing.specs.Wire.{board_in}
 use Rattle.crossing.specs.Crossing.{asked}
+use Rattle.crossing.proofs.Returning.{sized_in}
 use Rattle.corbelnib.specs.Calls.{GoodBoard}
-
--- what is given passed its test
-module _ {A : Type 0} (x : A) where
-  pub given_after : (v : Verdict) (a : Answer A) → after v a ≡ given x → (v ≡ fine) × (a ≡ given x)
-  given_after (given u) a e = (refl, e)
-  given_after (refused n) a e = let z : ◌≡◌ {A = ℕ} 0 1 = cc in absurd (let w : ⊥ = omega arith in w)
-
-pub sized_in : (bytes : List ℕ) → length bytes ≡ 432 → Sized (board_in bytes)
-unfolding board_in
-sized_in bytes e =
-    record { four = part 4 0 (omega arith); piles = part 4 4 (omega arith); eight = part 8 8 (omega arith); full = part tableau_room 16 (omega arith) }
-  where
-    part : (n at : ℕ) → at + n ≤ 432 → length (take n (drop at bytes)) ≡ n
-    part n at h = length-take-le n (drop at bytes) (let d = length-drop at bytes in omega arith)
 
 pub good_board : (bytes : List ℕ) → length bytes ≡ 432 → examined (board_in bytes) ≡ fine → GoodBoard bytes
 good_board bytes e f = let a = accepted_fair (board_in bytes) (sized_in bytes e) f in record { long = e; shape = a.0; fair = a.1 }

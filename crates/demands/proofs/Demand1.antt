@@ -1,4 +1,6 @@
 -- Demand 1 holds.
+use Rattle.std.specs.Prelude.{Option}
+use Rattle.card.specs.declared.Card.{Card}
 use mathlib.Core.Path.{◌≡◌, refl, sym, ap, ap₂, ◌∙◌, subst}
 use mathlib.Core.Bool.{Bool, true, ◌||◌, or-true}
 use mathlib.Core.List.{List, [], ◌∷◌, ◌++◌}
@@ -14,7 +16,6 @@ use Rattle.shuffle.specs.Shuffle.{deck_of}
 use Rattle.intake.specs.Deal.{dealt}
 use Rattle.intake.specs.Number.{is_number, number_asked}
 use Rattle.questions.specs.Questions.{top_of, cell_of, won_on, top_asked, cell_asked, foundation_asked, won_asked}
-use Rattle.questions.specs.declared.Top.{Top}
 use Rattle.rules.specs.Limit.{most_moved}
 use Rattle.rules.specs.Asked.{most_asked}
 use Rattle.moves.specs.Record.{move_of, move_asked}
@@ -171,13 +172,13 @@ place_by board ok what = asked_by board (λ b. unless ok 30 (given (what b))) (t
 top_ruled : (i : In top) (n : Places top) → Ruled top i n
 unfolding top_left top_asked
 top_ruled i n =
-    let what : Board → Top = λ b. top_of (get_or (shown b).columns i.1 []) in
+    let what : Board → (Option Card) = λ b. top_of (get_or (shown b).columns i.1 []) in
     crosses (hands top) n (order top i n) (what (board_in i.0)) _ (place_by i.0 (ltb i.1 8) what) refl
 
 cell_ruled : (i : In cell) (n : Places cell) → Ruled cell i n
 unfolding cell_left cell_asked
 cell_ruled i n =
-    let what : Board → Top = λ b. cell_of (get_or (shown b).cells i.1 0) in
+    let what : Board → (Option Card) = λ b. cell_of (get_or (shown b).cells i.1 0) in
     crosses (hands cell) n (order cell i n) (what (board_in i.0)) _ (place_by i.0 (ltb i.1 4) what) refl
 
 home-ruled : (i : In home) (n : Places home) → Ruled home i n

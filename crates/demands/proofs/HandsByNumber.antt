@@ -1,5 +1,5 @@
 -- Request (i) holds: every number of 1 to 32,000 is dealt, and its board is well formed.
-use mathlib.Core.Path.{◌≡◌, refl, sym, ap, ◌∙◌, subst}
+use mathlib.Core.Path.{◌≡◌, sym, ap, ◌∙◌, subst}
 use mathlib.Core.Bool.{true, false}
 use mathlib.Core.List.{List, [], ◌∷◌}
 use Prim.Native.Nat.{ℕ, ◌<◌, ◌≤◌}
@@ -40,10 +40,10 @@ module _ (c : Call number) where
 
   module _ (ok : is_number c.input ≡ true) where
     with_room_lem : board_room ≤ length c.before → left c.number c.after ≡ left 0 (over (bytes_of board) c.before)
-    with_room_lem h = answered (number_given c.input ok) ∙ sym (hands_yes board c.before refl h refl)
+    with_room_lem h = answered (number_given c.input ok) ∙ sym (hands_yes board c.before h)
 
     short : length c.before < board_room → c.number ≡ 21
-    short h = ap (λ (l : Left (List ℕ)). l.number) (answered (number_given c.input ok) ∙ sym (hands_short board c.before refl h))
+    short h = ap (λ (l : Left (List ℕ)). l.number) (answered (number_given c.input ok) ∙ sym (hands_short board c.before h))
 
     lies : board_room ≤ length c.before → dealt_by c ≡ take board_room (over (bytes_of board) c.before)
     lies h = ap (λ (l : Left (List ℕ)). take board_room l.places) (with_room_lem h)

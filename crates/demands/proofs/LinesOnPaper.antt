@@ -28,7 +28,7 @@ use Rattle.crossing.specs.Papers.{count_left}
 use Rattle.corbelnib.specs.Calls.{read_line, write_line, Call}
 use Rattle.demands.specs.LinesOnPaper.{text_written, records_read, Octets, InForm, FirstWrong, LinesOnPaper}
 use Rattle.demands.proofs.Refusing.{by_test, by_verdict, board_refuses}
-use Rattle.demands.proofs.Crossing.{sized_in}
+use Rattle.crossing.proofs.Returning.{sized_in}
 use Rattle.demands.proofs.Papers.{read_refusals, read_outcome, write_outcome, passed_on, forty_two}
 use Rattle.demands.proofs.PaperCalls.{asked_on, asked_gave, read, read_end, read_number, read_gave, read_done, records_are, list_kept, write_gave, write_done, text_is, text-kept, answer, written-text, text_short}
 use Rattle.demands.proofs.ReadingLines.{bad_board, little_room_lem, no_line, past_most, no_moves, wrong_move_lem, bad_move_lem, one_more_lem}

@@ -20,7 +20,8 @@ use Rattle.crossing.specs.Crossing.{Left, left, crossed, asked, within}
 use Rattle.corbelnib.specs.Calls.{Entry, In, Places, promise, Call, GoodBoard}
 use Rattle.demands.specs.Orders.{Test, first_failing, boards, room_for, order}
 use Rattle.demands.specs.Demand1.{hands, Tells}
-use Rattle.demands.proofs.Crossing.{given_after, good_board, good_fine}
+use Rattle.crossing.proofs.Crossing.{given_after}
+use Rattle.demands.proofs.Crossing.{good_board, good_fine}
 
 -- ---- tests after tests
 

@@ -27,7 +27,7 @@ use Rattle.crossing.specs.Papers.{line_asked, count_left, read_by, written_by, l
 use Rattle.corbelnib.specs.Calls.{read_line, write_line, Call}
 use Rattle.demands.specs.Demand1.{of_moves}
 use Rattle.demands.specs.LinesOnPaper.{text_written, records_read, Octets}
-use Rattle.demands.proofs.Crossing.{sized_in}
+use Rattle.crossing.proofs.Returning.{sized_in}
 use Rattle.demands.proofs.Replaying.{over_first}
 use Rattle.demands.proofs.Papers.{read_refusals, write_refusals, read_outcome, write_outcome, read_stops, write_stops, Gave, zero_gave, not_zero-keeps}
 

@@ -53,7 +53,8 @@ use Rattle.demands.specs.Demand2.{table_in}
 use Rattle.demands.specs.WrittenMoves.{Wrong, Means}
 use Rattle.demands.specs.LinesOnPaper.{records_read, InForm, Ready, ComesTo, table_then, PlaysOn}
 use Rattle.demands.proofs.Refusing.{Refuses, ruling_refuses, in_moves}
-use Rattle.demands.proofs.Crossing.{sized_in, good_fine}
+use Rattle.crossing.proofs.Returning.{sized_in}
+use Rattle.demands.proofs.Crossing.{good_fine}
 use Rattle.demands.proofs.Replaying.{is_line_lem, ends_at, laid_table}
 use Rattle.demands.proofs.PaperCalls.{asked_on, asked_gave, read, read_gave, read_done, records_are, read_refused, read_refused_at}
 use Rattle.demands.proofs.WrittenMoves.{wrong_meant, means_meant}

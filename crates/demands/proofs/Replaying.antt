@@ -89,7 +89,7 @@ module _ (r : Call replay) (good : GoodBoard r.input.0) (line : is_line r.input.
       (good_asked (λ b. unless (is_line r.input.1) 31 (given (line_from b (records_in r.input.1)))) good
       ∙ ap (λ (ok : Bool). unless ok 31 (given (line_from (board_in r.input.0) (records_in r.input.1)))) line
       ∙ ap (λ (x : Ending). given x) q)
-      ∙ sym (line_yes e r.before.0 r.before.1 room refl refl)
+      ∙ sym (line_yes e r.before.0 r.before.1 room)
 
 -- ---- the replay
 

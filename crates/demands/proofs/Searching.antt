@@ -21,12 +21,12 @@ use Rattle.crossing.specs.Wire.{board_room, board_in}
 use Rattle.crossing.specs.Crossing.{Left, left}
 use Rattle.corbelnib.specs.Judged.{leaves, pointed, judge_left}
 use Rattle.crossing.specs.Numbers.{flag, is_answer}
-use Rattle.corbelnib.proofs.Calls.{is_answer_lem, call_of, call_number}
+use Rattle.corbelnib.proofs.Calls.{is_answer_lem, call_of}
 use Rattle.corbelnib.specs.Calls.{Lent, search_left, In, Places, judge, Call, promise, capacity_in}
 use Rattle.demands.specs.Orders.{Test, first_failing, room_for, settings, order}
 use Rattle.demands.specs.Demand1.{Tells, GoodSearch}
 use Rattle.demands.proofs.Ordering.{boards_then, boards_good, good_boards, passing, Held, not_handed, Ruled, Bare, call_numbered, call_examines}
-use Rattle.demands.proofs.Crossing.{sized_in}
+use Rattle.crossing.proofs.Returning.{sized_in}
 
 -- ---- an answer's number
 
@@ -128,8 +128,7 @@ module _ (c : Call judge) (bytes : List ℕ) (same : c.input.board ≡ bytes) (a
 
   pub same_number : solver.number searching ≡ c.number
   unfolding searching
-  same_number =
-      call_number c.before.nodes c.before.heap c.before.keys c.before.costs c.before.list c.before.pops c.before.moves bytes c.input.budget c.input.partial whole leaves_all (answer_is c.number a)
+  same_number = refl
 
   pub answered : solver.IsAnswer (solver.number searching)
   answered = subst solver.IsAnswer (sym same_number) (answer_is c.number a)

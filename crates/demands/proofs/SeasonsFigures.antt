@@ -18,7 +18,7 @@ use Rattle.sheets.specs.Adding.{same_settings, apart, added, add_asked}
 use Rattle.sheets.proofs.Goodness.{good_is, mark_none}
 use Rattle.sheets.proofs.Adding.{sum_good, add_comm, add_assoc, overs_asked}
 use Rattle.season.specs.Season.{result_of, season_asked}
-use Rattle.season.proofs.Answers.{found_result, each-answered}
+use Rattle.season.proofs.Answers.{result_found, each-answered}
 use Rattle.season.proofs.Accepting.{no_first, over_budget, no_sheet, no_node}
 use Rattle.season.proofs.Seasons.{season_good, season_empty, season_covers, season_parts, seasons_agree}
 use Rattle.crossing.specs.Numbers.{flag, is_answer}
@@ -39,8 +39,9 @@ as_judged_lem : (d : Call number) (j : Call judge) → d.number ≡ 0 → j.inpu
 unfolding searching
 as_judged_lem d j done same a =
     let s = searching j (dealt_by d) same a in
+    let g = gives s (answered-accepted s (answered j (dealt_by d) same a)) in
     let table = (hands_by_number.deals d (is_number_lem d done) (enough d done)).1 in
-    sym (found_result (settings_of j) d.input (board_in (dealt_by d)) (gives s (answered-accepted s (answered j (dealt_by d) same a))) table (sym (same_number j (dealt_by d) same a)))
+    sym (result_found (settings_of j) d.input (board_in (dealt_by d)) table (sym (same_number j (dealt_by d) same a) ∙ g.number) g.pops g.moves)
 
 -- ---- a season
 

@@ -35,13 +35,13 @@ use Rattle.crossing.specs.Crossing.{Left, left, told, crossed}
 use Rattle.crossing.specs.Boards.{board_left, move_left, line_left, replay_left}
 use Rattle.crossing.specs.Values.{value_left, priority_left}
 use Rattle.crossing.proofs.Handing.{line_yes}
-use Rattle.crossing.proofs.Returning.{bytes_long, board_back}
+use Rattle.crossing.proofs.Returning.{bytes_long, board_back, sized_in}
 use Rattle.corbelnib.specs.Calls.{Entry, examine, move, replay, priority, Call, GoodBoard}
 use Rattle.demands.specs.Orders.{Test, first_failing, boards, room_for, one_move, order}
 use Rattle.demands.specs.Demand1.{is_in, of_moves, Tells}
 use Rattle.demands.specs.Demand2.{table_in, end_of}
 use Rattle.demands.specs.WhyRefused.{Says, record_at, UpTo, EndsThere, WhyRefused}
-use Rattle.demands.proofs.Crossing.{good_asked, good_fine, sized_in}
+use Rattle.demands.proofs.Crossing.{good_asked, good_fine}
 use Rattle.demands.proofs.Ordering.{joined, boards_good, good_boards}
 use Rattle.demands.proofs.Replaying.{over_first}
 use Rattle.demands.proofs.Demand1.{bad_move_lem, demand1}
@@ -175,7 +175,7 @@ module _ (c : Call replay) (none : first_failing (order replay c.input c.before)
       c.keeps
       ∙ ap (λ (a : Answer Ending). line_left a c.before.0 c.before.1)
       (good_asked (λ b. unless (is_line list) 31 (given (line_from b (records_in list)))) good ∙ ap (λ (ok : Bool). unless ok 31 (given ending)) is_line_lem)
-      ∙ sym (line_yes ending c.before.0 c.before.1 wide refl refl)
+      ∙ sym (line_yes ending c.before.0 c.before.1 wide)
 
   module _ (bytes : (k : ℕ) → get_or list k 0 ≤ 255) where
     sound_end : Sound ending.board

@@ -1,8 +1,9 @@
 -- Request (iv), writing: replay's refusals first, then 43, then 21.
+use Rattle.std.specs.Prelude.{Ok}
 use mathlib.Core.Path.{◌≡◌, refl, sym, ap, ◌∙◌, subst}
 use mathlib.Core.Bool.{Bool, true, false}
 use mathlib.Core.List.{List, [], ◌∷◌}
-use Prim.Native.Nat.{ℕ, ◌/◌, ◌%◌, ◌<◌, ◌≤◌}
+use Prim.Native.Nat.{ℕ, ◌%◌, ◌<◌, ◌≤◌}
 use native.Mathlib.Omega.{arith}
 use borrow.Author.Tests.{le-leb}
 use lib.Dec.{eqb, leb}
@@ -15,7 +16,6 @@ use Rattle.board.specs.Verdict.{Verdict, fine, after}
 use Rattle.board.specs.Record.{examined, shown}
 use Rattle.board.specs.Inner.{Sound}
 use Rattle.board.specs.declared.Board.{Board}
-use Rattle.board.specs.declared.Examined.TheVariants.{WellFormed}
 use Rattle.board.proofs.Soundness.{sound}
 use Rattle.replay.specs.Line.{Ending, line_from, records_in, is_line}
 use Rattle.replay.specs.declared.Stopped.{Stopped}
@@ -37,7 +37,8 @@ use Rattle.demands.specs.Demand1.{is_in, of_moves, hands}
 use Rattle.demands.specs.LinesOnPaper.{ReplayOf, IsSixth}
 use Rattle.demands.proofs.Ordering.{numbers, boards_good}
 use Rattle.demands.proofs.Refusing.{Refuses, board_refuses, apart}
-use Rattle.demands.proofs.Crossing.{sized_in, good_fine, good_asked}
+use Rattle.crossing.proofs.Returning.{sized_in}
+use Rattle.demands.proofs.Crossing.{good_fine, good_asked}
 use Rattle.demands.proofs.Demand1.{demand1}
 use Rattle.demands.proofs.Papers.{line_refuses}
 use Rattle.demands.proofs.PaperCalls.{asked_on, wrote_it, write_end, write_done, write_refused, write_refused_at}
@@ -143,7 +144,7 @@ module _ (w : Call write_line) (x : Call replay) (p : ReplayOf w x) where
     asked_so = asked_on w.input.0 (λ d. write_asked d w.input.1 (length w.before.0)) good.long
 
     abbrev told_well : Stopped
-    told_well = record { said = WellFormed; moves = ending.moves }
+    told_well = record { said = (Ok tt); moves = ending.moves }
 
     stops : Stops ending told_well
     stops = record { said = sym plays.1; moves = refl }
@@ -154,18 +155,18 @@ module _ (w : Call write_line) (x : Call replay) (p : ReplayOf w x) where
         (λ i h k. none i h (record { there = (let t = six.there in omega arith); kind = k })) in
         write_refused_at w
         (asked_so
-        ∙ no_sign b w.input.1 (length w.before.0) sound_board plays.0 stops refl q (let t = six.there in let z = whole in omega arith))
+        ∙ no_sign b w.input.1 (length w.before.0) sound_board plays.0 stops refl q)
 
     module _ (none : (i : ℕ) → IsSixth w.input.1 i → ⊥) where
-      upto : length w.input.1 / 5 ≡ writable_first (moves_in w.input.1)
+      upto : writable_first (moves_in w.input.1) ≡ length (moves_in w.input.1)
       upto = none_sixth b w.input.1 whole plays.1 (λ i h k. none i (record { there = h; kind = k }))
 
       pub little_text_lem : length w.before.0 < text_room → w.number ≡ 21
       little_text_lem h =
           write_refused w
-          (asked_so ∙ no_room_lem b w.input.1 (length w.before.0) sound_board plays.0 stops refl upto (omega arith) h)
+          (asked_so ∙ no_room_lem b w.input.1 (length w.before.0) sound_board plays.0 stops refl upto h)
 
       pub all-written : text_room ≤ length w.before.0 → w.number ≡ 0
       all-written h =
           write_done w
-          (asked_so ∙ all_told b w.input.1 (length w.before.0) sound_board plays.0 stops refl upto (omega arith) h)
+          (asked_so ∙ all_told b w.input.1 (length w.before.0) sound_board plays.0 stops refl upto h)

@@ -1,7 +1,7 @@
 // A sheet started, and deals entered into it one by one.
 #![tactic(auto)]
 
-ghost use Rattle.std.specs.Prelude.{◌≡◌, cond, ◌+◌, ◌^◌, ◌<◌, ◌≤◌, length, get_or};
+ghost use Rattle.std.specs.Prelude.{◌≡◌, ◌+◌, ◌^◌, ◌<◌, ◌≤◌, length, get_or};
 ghost use Rattle.base.specs.Words.{occurs};
 ghost use Rattle.sheets.specs.Figures.{answers_counted};
 ghost use Rattle.sheets.specs.declared.Side.TheVariants.{Shortest as shortest, Longest as longest};
@@ -9,28 +9,17 @@ ghost use Rattle.sheets.specs.Over.{zero_sheet};
 ghost use Rattle.sheets.specs.Noted.{noted};
 ghost use Rattle.sheets.specs.Promises.{Small, mark_entered, Enterable, Raised, WinNoted};
 
-use sheets::Side;
-use sheets::mark::{behind_best, key_of, set_mark};
-
-fn flag_word(partial: bool) -> u64
-    ensures { result ≡ cond partial 1 0 }
-{
-    if partial {
-        return 1;
-    }
-    0
-}
+use sheets::{Mark, Side};
 
 // A sheet with no deal.
 pub fn start(sheet: &mut [u64], budget: u64, capacity: u64, partial: bool)
     requires { length sheet.old ≡ 716 }
     ensures { sheet.new ≡ zero_sheet (record { budget = budget; capacity = capacity; partial = partial }) }
 {
-    base::blank::clear_longs(sheet);
-    let word = flag_word(partial);
+    base::blank::clear(sheet);
     sheet[sheets::BUDGET] = budget;
     sheet[sheets::CAPACITY] = capacity;
-    sheet[sheets::FLAG] = word;
+    sheet[sheets::FLAG] = u64::from(partial);
 }
 
 // A word raised.
@@ -39,9 +28,7 @@ fn raise(sheet: &mut [u64], at: usize, by: u64)
     requires by_bound { get_or sheet.old at 0 + by < 2 ^ 64 }
     ensures { Raised sheet.old at by sheet.new }
 {
-    let old = sheet[at];
-    let new = old + by;
-    sheet[at] = new;
+    sheet[at] += by;
 }
 
 // The place of an answer among those that are counted.
@@ -49,24 +36,20 @@ fn answer_at(answer: u8) -> usize
     requires { occurs answer answers_counted ≡ 1 }
     ensures { (result < 7) × (get_or answers_counted result 0 ≡ answer) }
 {
-    if answer == 23 {
-        return 6;
+    match answer {
+        23 => 6,
+        _ => usize::from(answer),
     }
-    base::wide(answer)
 }
 
 // A won list against a mark.
-fn note_mark(sheet: &mut [u64], side: Side, list: u64, deal: u64)
+fn note_mark(sheet: &mut [u64], side: Side, won: Mark)
     requires small { Small side sheet.old }
-    requires list_bound { (list ≤ 200) × (deal ≤ 32000) }
-    ensures { sheet.new ≡ mark_entered side sheet.old list deal }
+    requires list_bound { (won.list ≤ 200) × (won.deal ≤ 32000) }
+    ensures { sheet.new ≡ mark_entered side sheet.old won.list won.deal }
 {
-    let mine = key_of(sheet, side);
-    let back = behind_best(side, list);
-    let high = back * 32768;
-    let key = high + deal;
-    if key < mine {
-        set_mark(sheet, side, list, deal);
+    if won.key(side) < Mark::key_on(sheet, side) {
+        won.put(sheet, side);
     }
 }
 
@@ -78,12 +61,13 @@ fn note_win(sheet: &mut [u64], moves: usize, n: usize)
     requires small_2 { Small longest sheet.old }
     ensures { WinNoted sheet.old moves n sheet.new }
 {
-    let at = sheets::LISTS + moves;
-    let list = moves as u64;
-    let deal = n as u64;
-    raise(sheet, at, 1);
-    note_mark(sheet, Side::Shortest, list, deal);
-    note_mark(sheet, Side::Longest, list, deal);
+    let won = Mark {
+        list: moves as u64,
+        deal: n as u64,
+    };
+    raise(sheet, sheets::LISTS + moves, 1);
+    note_mark(sheet, Side::Shortest, won);
+    note_mark(sheet, Side::Longest, won);
 }
 
 // What deal n gave: the answer's number, the pops, and how many moves the list has.
@@ -91,18 +75,10 @@ pub fn note(sheet: &mut [u64], n: usize, answer: u8, pops: usize, moves: usize)
     requires { Enterable sheet.old n (record { answer = answer; pops = pops; moves = moves }) }
     ensures { sheet.new ≡ noted sheet.old n (record { answer = answer; pops = pops; moves = moves }) }
 {
-    let which = answer_at(answer);
-    let said = sheets::ANSWERS + which;
-    raise(sheet, said, 1);
-    let count = pops as u64;
-    raise(sheet, sheets::POPS, count);
+    raise(sheet, sheets::ANSWERS + answer_at(answer), 1);
+    raise(sheet, sheets::POPS, pops as u64);
     let place = n - 1;
-    let word = place / 64;
-    let rest = place % 64;
-    let bit = rest as u64;
-    let by = 1u64 << bit;
-    let at = sheets::COVERS + word;
-    raise(sheet, at, by);
+    raise(sheet, sheets::COVERS + place / 64, 1 << (place % 64));
     if answer == 0 {
         note_win(sheet, moves, n);
     }

@@ -6,43 +6,34 @@ use Prim.Native.Nat.{ℕ, zero, suc, ◌+◌, ◌-◌, ◌*◌, ◌/◌, ◌<◌
 use native.Mathlib.Nat.{le_trans, le_of_suc-le-suc}
 use native.Mathlib.Numerals.{add-one, one-add}
 use native.Mathlib.Omega.{arith}
-use borrow.Author.Tests.{leb-true, le-leb, lt-leb, eq-eqb}
+use borrow.Author.Tests.{leb-true, eq-eqb}
 use lib.Dec.{leb, eqb}
-use lib.ListN.{length, get_or, take, drop, length-append, length-drop, drop_of_length-le}
+use lib.ListN.{length, get_or, drop, length-append, length-drop, drop_of_length-le}
 use lib.Seq.{drop-cons}
 use Rattle.base.specs.Words.{sum, all, occurs, listed, concat}
 use Rattle.card.specs.Card.{is_card}
 use Rattle.card.specs.Pack.{card_at, place_of}
 use Rattle.base.proofs.Words.{first, second, concat_more, get_or-listed}
-use Rattle.base.proofs.Sums.{sum_part, sum_ones, sum-add, sum_same}
+use Rattle.base.proofs.Sums.{sum_part, sum_most, sum_ones, sum-add, sum_same}
 use Rattle.card.proofs.Codes.{card_is, at_place}
 use Rattle.board.specs.Record.{column_at, room}
 use Rattle.board.specs.Inner.{GoodColumns}
-use Rattle.board.proofs.Soundness.{column_part, column_length}
+use Rattle.board.proofs.Soundness.{column_length}
 use Rattle.features.specs.Features.{blocked_in, blocked_on}
 
 -- ---- card by card
-
-pub by_low : (x above : ℕ) → x / 16 ≤ 3 → above ≡ cond (leb (x / 16) 3) above 0
-by_low x above h = rw (le-leb (x / 16) 3 h)
-
-pub by_high : (x above : ℕ) → 3 < x / 16 → 0 ≡ cond (leb (x / 16) 3) above 0
-by_high x above h = rw (lt-leb (x / 16) 3 h)
 
 pub by_most : (t : Bool) (above : ℕ) → cond t above 0 ≤ above
 by_most true above = omega arith
 by_most false above = omega arith
 
 -- the cards from place k on: the first of them, and the others
-pub blocked_step : (l : List ℕ) (k left : ℕ) → k < length l → left ≡ length l - k
-    → blocked_in (drop k l) ≡ cond (leb (get_or l k 0 / 16) 3) (left - 1) 0 + blocked_in (drop (k + 1) l)
+pub blocked_step : (l : List ℕ) (k : ℕ) → k < length l
+    → blocked_in (drop k l) ≡ cond (leb (get_or l k 0 / 16) 3) (length l - (k + 1)) 0 + blocked_in (drop (k + 1) l)
 unfolding blocked_in
-blocked_step l k left h e =
+blocked_step l k h =
     ap blocked_in (drop-cons l k 0 h ∙ ap (λ (n : ℕ). get_or l k 0 ∷ drop n l) (sym (add-one k)))
-    ∙ ap (λ (n : ℕ). cond (leb (get_or l k 0 / 16) 3) n 0 + blocked_in (drop (k + 1) l)) (rest ∙ (let q : length l - (k + 1) ≡ left - 1 = omega arith in q))
-  where
-    rest : length (drop (k + 1) l) ≡ length l - (k + 1)
-    rest = length-drop (k + 1) l
+    ∙ ap (λ (n : ℕ). cond (leb (get_or l k 0 / 16) 3) n 0 + blocked_in (drop (k + 1) l)) (length-drop (k + 1) l)
 
 pub blocked_end : (l : List ℕ) (k : ℕ) → length l ≤ k → blocked_in (drop k l) ≡ 0
 unfolding blocked_in
@@ -56,18 +47,16 @@ blocked_little (x ∷ l) h = let i = blocked_little l (omega arith) in let m = b
 
 -- ---- columns
 
-module _ {counts tableau : List ℕ} (g : GoodColumns counts tableau) (i w : ℕ) (h : i < 8) (e : w ≡ get_or counts i 0) where
-  column_within : length (column_at counts tableau i) ≤ room
-  column_within = let n = column_length g i h in let b = g.within i h in omega arith
+module _ {counts tableau : List ℕ} (g : GoodColumns counts tableau) where
+  pub column_short : (i : ℕ) → i < 8 → length (column_at counts tableau i) ≤ room
+  column_short i h = let n = column_length g i h in let b = g.within i h in omega arith
 
-  pub column_short : length (take (i * room + w - i * room) (drop (i * room) tableau)) ≤ room
-  column_short = subst (λ (l : List ℕ). length l ≤ room) (sym (column_part counts tableau i e)) column_within
+  column_little : (i : ℕ) → i < 8 → blocked_in (column_at counts tableau i) ≤ 2704
+  column_little i h = let c = column_short i h in let b = blocked_little (column_at counts tableau i) c in omega arith
 
-  pub column_adds : {r : ℕ} → r ≡ blocked_in (take (i * room + w - i * room) (drop (i * room) tableau)) → r ≡ blocked_in (column_at counts tableau i)
-  column_adds q = q ∙ ap blocked_in (column_part counts tableau i e)
-
-  pub column_little : blocked_in (column_at counts tableau i) ≤ 2704
-  column_little = let c = column_within in let b = blocked_little (column_at counts tableau i) c in omega arith
+  pub columns_little : sum 8 (λ i. blocked_in (column_at counts tableau i)) ≤ 21632
+  unfolding sum
+  columns_little = sum_most (λ i. blocked_in (column_at counts tableau i)) (λ i. 2704) 8 column_little
 
 pub blocked_columns : (counts tableau : List ℕ) → sum 8 (λ k. blocked_in (column_at counts tableau k)) ≡ blocked_on (listed 8 (column_at counts tableau))
 unfolding blocked_on

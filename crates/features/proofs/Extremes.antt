@@ -1,25 +1,29 @@
 -- The greatest and the least of some numbers.
-use mathlib.Core.Path.{◌≡◌, refl, ap₂, ◌∙◌}
-use mathlib.Core.List.{List}
-use Prim.Native.Nat.{ℕ, zero, suc, ◌+◌, ◌<◌, ◌≤◌, min, max}
-use native.Mathlib.Numerals.{add-one}
+use mathlib.Core.Path.{◌≡◌, refl, sym, ap, ap₂, ◌∙◌}
+use mathlib.Core.List.{List, [], map}
+use Prim.Native.Nat.{ℕ, zero, suc, ◌<◌, ◌≤◌, min, max}
 use native.Mathlib.Omega.{arith}
 use lib.ListN.{get_or}
-use Rattle.features.specs.Features.{greatest, least}
+use Rattle.std.specs.List.{fold, range_with_len}
+use Rattle.base.specs.Words.{listed}
+use Rattle.base.proofs.Words.{get_or-listed}
+use Rattle.runs.specs.Run.{run_length}
+use Rattle.features.specs.Features.{greatest, least, longest_run}
 
 pub greatest_most : (f : ℕ → ℕ) (n most : ℕ) → ((k : ℕ) → k < n → f k ≤ most) → greatest n f ≤ most
 unfolding greatest
 greatest_most f zero most h = omega arith
 greatest_most f (suc n) most h = let g = greatest_most f n most (λ k l. h k (omega arith)) in let e = h n (omega arith) in omega arith
 
-pub greatest_next : (f : ℕ → ℕ) (i : ℕ) → greatest (i + 1) f ≡ max (greatest i f) (f i)
-unfolding greatest
-greatest_next f i = rw add-one refl
-
-pub greatest_same : (f g : ℕ → ℕ) (n : ℕ) → ((k : ℕ) → k < n → f k ≡ g k) → greatest n f ≡ greatest n g
+greatest_same : (f g : ℕ → ℕ) (n : ℕ) → ((k : ℕ) → k < n → f k ≡ g k) → greatest n f ≡ greatest n g
 unfolding greatest
 greatest_same f g zero h = refl
 greatest_same f g (suc n) h = ap₂ max (greatest_same f g n (λ k l. h k (omega arith))) (h n (omega arith))
+
+-- the eight columns' runs, one after the other
+pub longest_is : (f : ℕ → List ℕ) → fold max 0 (map (λ i. run_length (f i)) (range_with_len 0 8)) ≡ longest_run (listed 8 f)
+unfolding longest_run greatest
+longest_is f = sym (greatest_same (λ i. run_length (get_or (listed 8 f) i [])) (λ i. run_length (f i)) 8 (λ k h. ap run_length (get_or-listed f 8 k [] h)))
 
 -- ---- four of them, two by two
 

@@ -1,15 +1,15 @@
 -- The last card of a column or of a cell, where it can go home.
 use mathlib.Core.Path.{◌≡◌, refl, sym, ap, ◌∙◌}
-use mathlib.Core.Bool.{Bool, true, false, cond}
+use mathlib.Core.Bool.{false}
 use mathlib.Core.List.{List, [], ◌∷◌}
-use Prim.Native.Nat.{ℕ, zero, suc, ◌+◌, ◌-◌, ◌*◌, ◌<◌}
+use Prim.Native.Nat.{ℕ, zero, suc, ◌-◌}
 use native.Mathlib.Omega.{arith}
 use lib.ListN.{length, get_or}
+use Rattle.std.proofs.Common.{Some, None}
+use Rattle.std.specs.List.{slice_get}
+use Rattle.base.proofs.Lists.{last_of_some, last_of_none}
 use Rattle.board.specs.Table.{held}
-use Rattle.board.specs.Record.{column_at, room}
-use Rattle.board.specs.Inner.{GoodColumns}
 use Rattle.board.proofs.Tables.{cell_empty, cell_card}
-use Rattle.board.proofs.Soundness.{column_length, column_code}
 use Rattle.rules.specs.Fit.{home_takes}
 use Rattle.features.specs.Features.{last_goes_home}
 
@@ -28,26 +28,22 @@ last_some foundation (x ∷ []) (suc n) e = absurd (let z : ⊥ = omega arith in
 last_some foundation (x ∷ y ∷ l) zero e = absurd (let z : ⊥ = omega arith in z)
 last_some foundation (x ∷ y ∷ l) (suc n) e = last_some foundation (y ∷ l) n (omega arith)
 
--- 1 for a card that can go home
-pub one_home : {t r : Bool} → r ≡ t → r ≡ true → ◌≡◌ {A = ℕ} 1 (cond t 1 0)
-one_home e q = ap (λ (b : Bool). cond b 1 0) (sym q ∙ e)
+-- ---- of a column, as `last` gives it
 
-pub no_home : {t r : Bool} → r ≡ t → r ≡ false → ◌≡◌ {A = ℕ} 0 (cond t 1 0)
-no_home e q = ap (λ (b : Bool). cond b 1 0) (sym q ∙ e)
+module _ (foundation l : List ℕ) where
+  pub column_none : None ≡ slice_get l (length l - 1) → false ≡ last_goes_home foundation l
+  column_none e = sym (last_none foundation l (last_of_none l e))
 
-module _ (foundation : List ℕ) {counts tableau : List ℕ} (g : GoodColumns counts tableau) (i w : ℕ) (h : i < 8) (e : w ≡ get_or counts i 0) where
-  pub column_none : w ≡ 0 → ◌≡◌ {A = ℕ} 0 (cond (last_goes_home foundation (column_at counts tableau i)) 1 0)
-  column_none q = no_home refl (last_none foundation (column_at counts tableau i) (column_length g i h ∙ sym e ∙ q))
+  pub column_last : (x : ℕ) → Some x ≡ slice_get l (length l - 1) → home_takes foundation x ≡ last_goes_home foundation l
+  column_last x e =
+      let t = last_of_some l x e in
+      sym (last_some foundation l (length l - 1) (omega arith) ∙ ap (home_takes foundation) t.1)
 
-  pub column_last : (w ≡ 0 → ⊥) → home_takes foundation (get_or tableau (i * room + (w - 1)) 0) ≡ last_goes_home foundation (column_at counts tableau i)
-  column_last q =
-      sym
-      (last_some foundation (column_at counts tableau i) (w - 1) (let n = column_length g i h in omega arith)
-      ∙ ap (home_takes foundation) (column_code counts tableau i (w - 1) (omega arith)))
+-- ---- of a cell
 
 module _ (foundation : List ℕ) (x : ℕ) where
-  pub cell_none : x ≡ 255 → ◌≡◌ {A = ℕ} 0 (cond (last_goes_home foundation (held (x ∷ []))) 1 0)
-  cell_none e = no_home refl (last_none foundation (held (x ∷ [])) (ap length (cell_empty x e)))
+  pub cell_none : x ≡ 255 → false ≡ last_goes_home foundation (held (x ∷ []))
+  cell_none e = sym (last_none foundation (held (x ∷ [])) (ap length (cell_empty x e)))
 
   pub cell_last : (x ≡ 255 → ⊥) → home_takes foundation x ≡ last_goes_home foundation (held (x ∷ []))
   cell_last d = sym (ap (last_goes_home foundation) (cell_card x d) ∙ last_some foundation (x ∷ []) 0 refl)

@@ -12,20 +12,19 @@ ghost use Rattle.finish.specs.Said.{said_number};
 ghost use Rattle.finish.specs.Inner.{Closed, Gives, line_or, limit_said, answer_by};
 ghost use Rattle.moves.specs.Written.{list_room};
 
-use board::{Board, Refusal};
+use board::Board;
 use memory::{Counts, Ended};
 
 // How a search was answered; specs/Said.antt has SCOPE.md's number for each.
-#[derive(Clone, Copy)]
+#[derive(Clone, Copy, PartialEq, Eq)]
 pub enum Said {
-    Won,
-    BestAtLimit,
-    BestExhausted,
-    Limit,
-    Exhausted,
-    BestIsWon,
-    OutOfNodes,
-    Refused(Refusal),
+    Won = 0,
+    BestAtLimit = 1,
+    BestExhausted = 2,
+    Limit = 3,
+    Exhausted = 4,
+    BestIsWon = 5,
+    OutOfNodes = 23,
 }
 
 // The answer, the pops, and how many moves the list has.
@@ -40,16 +39,7 @@ pub struct Judged {
 pub fn number(said: Said) -> u8
     ensures { result ≡ said_number said }
 {
-    match said {
-        Said::Won => 0,
-        Said::BestAtLimit => 1,
-        Said::BestExhausted => 2,
-        Said::Limit => 3,
-        Said::Exhausted => 4,
-        Said::BestIsWon => 5,
-        Said::OutOfNodes => 23,
-        Said::Refused(why) => board::number(why),
-    }
+    said as u8
 }
 
 // The line of node i is the list.

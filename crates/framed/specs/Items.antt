@@ -1,6 +1,6 @@
 -- Items one after the other.
-use Rattle.std.specs.Prelude.{cond, ◌&&◌, ℕ, ◌+◌, ◌-◌, leb}
+use Rattle.std.specs.Prelude.{List, ℕ, ◌+◌, ◌*◌, slice_index}
 
--- the place after an item of so many bytes, or the end where it takes none, or more than are left
-unfoldable pub next_item : ℕ → ℕ → ℕ → ℕ
-next_item at size end = cond (leb 1 size && leb size (end - at)) (at + size) end
+-- a two-byte count, the higher byte first, and as many bytes as it says
+unfoldable pub counted_size : List ℕ → ℕ
+counted_size bytes = 2 + (256 * slice_index bytes 0 + slice_index bytes 1)

@@ -1,23 +1,78 @@
 // Items that stand one after the other in some bytes, for the test programs; knows no cards.
 #![tactic(auto)]
 
-ghost use Rattle.std.specs.Prelude.{◌≡◌, ◌<◌, ◌≤◌};
-ghost use Rattle.framed.specs.Items.{next_item};
+ghost use Rattle.std.specs.Prelude.{◌≡◌, ◌↔◌, ◌<◌, ◌≤◌, drop, length, take, IsSome, MatchOption, OnSome};
+ghost use Rattle.std.specs.Iterator.{at_most};
+ghost use Rattle.framed.specs.Items.{counted_size};
 
-// Where the next item begins, after one at a place that took so many bytes: at the end if it took none, or more than there are.
-#[tactic(auto, unfolding(crate::specs::Items::next_item))]
-pub fn after(at: usize, size: usize, end: usize) -> usize
-    requires { at < end }
-    ensures value { result ≡ next_item at size end }
-    ensures lower_bound { at < result }
-    ensures upper_bound { result ≤ end }
+use std::marker::PhantomData;
+
+// The most bytes of standard input that a program reads.
+pub const MOST: u64 = 65_536;
+
+// Takes an item that begins with its count, two bytes with the higher one first, off the bytes; none where fewer are
+// left.
+#[tactic(auto, unfolding(crate::specs::Items::counted_size))]
+pub fn with_count<'a>(bytes: &mut &'a [u8]) -> Option<&'a [u8]>
+    ensures whole { IsSome result ↔ (counted_size bytes.old.now ≤ length bytes.old.now) }
+    ensures item { MatchOption result (bytes.new.now ≡ bytes.old.now)
+        (λ item. item.now ≡ take (counted_size bytes.old.now) bytes.old.now) }
+    ensures rest { MatchOption result (bytes.new.now ≡ bytes.old.now)
+        (λ _. bytes.new.now ≡ drop (counted_size bytes.old.now) bytes.old.now) }
+    ensures shorter { OnSome result (length bytes.new.now < length bytes.old.now) }
 {
-    if size < 1 {
-        return end;
+    let (count, _) = bytes.split_first_chunk()?;
+    let size = 2 + usize::from(u16::from_be_bytes(*count));
+    bytes.split_off(..size)
+}
+
+// The same without the count.
+#[tactic(auto, unfolding(crate::specs::Items::counted_size))]
+pub fn counted<'a>(bytes: &mut &'a [u8]) -> Option<&'a [u8]>
+    ensures whole { IsSome result ↔ (counted_size bytes.old.now ≤ length bytes.old.now) }
+    ensures item { MatchOption result (bytes.new.now ≡ bytes.old.now)
+        (λ item. item.now ≡ drop 2 (take (counted_size bytes.old.now) bytes.old.now)) }
+    ensures rest { MatchOption result (bytes.new.now ≡ bytes.old.now)
+        (λ _. bytes.new.now ≡ drop (counted_size bytes.old.now) bytes.old.now) }
+    ensures shorter { OnSome result (length bytes.new.now < length bytes.old.now) }
+{
+    let item = with_count(bytes)?;
+    Some(&item[2..])
+}
+
+// What can stand in some bytes, and be taken off them.
+pub trait Item<'a>: Sized {
+    // The item in front; none where no whole one is left.
+    fn take(bytes: &mut &'a [u8]) -> Option<Self>
+        ensures { OnSome result (length bytes.new.now < length bytes.old.now) };
+}
+
+// The items in some bytes, one after the other.
+#[derive(Drop)]
+pub struct Items<'a, T> {
+    bytes: &'a [u8],
+    item: PhantomData<T>,
+}
+
+pub fn items_in<'a, T: Item<'a>>(bytes: &'a [u8]) -> Items<'a, T>
+    ensures { result.bytes.now ≡ bytes.now }
+{
+    let item = PhantomData;
+    Items { bytes, item }
+}
+
+impl<'a, T: Item<'a>> Iterator for Items<'a, T> {
+    type Item = T;
+
+    ghost remaining = { λ s. at_most (length s.bytes.now) };
+
+    fn next(&mut self) -> Option<T> {
+        T::take(&mut self.bytes)
     }
-    let left = end - at;
-    if left < size {
-        return end;
+}
+
+impl<'a> Item<'a> for &'a [u8] {
+    fn take(bytes: &mut &'a [u8]) -> Option<&'a [u8]> {
+        counted(bytes)
     }
-    at + size
 }

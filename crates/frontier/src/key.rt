@@ -4,23 +4,19 @@ ghost use Rattle.std.specs.Prelude.{◌≡◌, ◌%◌, ◌<◌};
 ghost use Rattle.frontier.specs.Packing.{packed};
 
 // 17 bits for the sum, 15 for the heuristic, 32 for the number.
+#[tactic(auto, unfolding(crate::specs::Packing::packed))]
 pub fn pack(sum: usize, hope: usize, number: usize) -> u64
     requires sum_bound { sum < 131072 }
     requires hope_bound { hope < 32768 }
     requires number_bound { number < 4294967296 }
     ensures { result ≡ packed sum hope number }
 {
-    let high = sum * 32768;
-    let rank = high + hope;
-    let places = rank * 4294967296;
-    let key = places + number;
-    key as u64
+    ((sum * 32768 + hope) * 4294967296 + number) as u64
 }
 
 // The number of the node that a key is for.
 pub fn number_of(key: u64) -> usize
     ensures { result ≡ key % 4294967296 }
 {
-    let number = key % 4294967296;
-    number as usize
+    (key % 4294967296) as usize
 }

@@ -1,4 +1,5 @@
 -- The moves of one card between two places: decided by the top of the one and by what the other takes.
+use Rattle.std.specs.Prelude.{Some, None}
 use mathlib.Core.Path.{◌≡◌, refl, sym, ap, ◌∙◌, subst}
 use mathlib.Core.Bool.{Bool, true, false, cond}
 use mathlib.Core.List.{[], ◌∷◌}
@@ -16,7 +17,6 @@ use Rattle.board.specs.Table.{Table}
 use Rattle.board.specs.Record.{shown}
 use Rattle.board.specs.declared.Board.{Board}
 use Rattle.questions.specs.Questions.{top_of}
-use Rattle.questions.specs.declared.Top.TheVariants.{Is, Empty}
 use Rattle.moves.specs.Move.{from, to, count, card, sayable}
 use Rattle.moves.specs.declared.Place.{Place}
 use Rattle.moves.specs.declared.Place.TheVariants.{Home as home}
@@ -77,7 +77,7 @@ if_allowed_lem t m r e = ap (λ (a : Bool). cond a (m ∷ []) []) e
 
 module _ (t : Table) (w : Way) (i j : ℕ) (one : w ≡ ColumnToColumn → ⊥) (h : i < source_count w) where
   -- nothing lies there
-  pub none_found : top_of (there t (source w i)) ≡ Empty → found_between t w i j ≡ []
+  pub none_found : top_of (there t (source w i)) ≡ None → found_between t w i j ≡ []
   unfolding offered
   none_found e =
       let c = card_of (get_or (last_of 1 (there t (source w i))) 0 0) in
@@ -87,7 +87,7 @@ module _ (t : Table) (w : Way) (i j : ℕ) (one : w ≡ ColumnToColumn → ⊥) 
       (let l = top_empty (there t (source w i)) e in let q = ap (λ (p : Place). length (there t p)) (comes_from w i j 1 c h) in omega arith))
 
   -- the place decides
-  pub one_found : (c : Card) (r : Bool) → top_of (there t (source w i)) ≡ Is c → all is_card (there t (source w i)) ≡ true
+  pub one_found : (c : Card) (r : Bool) → top_of (there t (source w i)) ≡ Some c → all is_card (there t (source w i)) ≡ true
       → r ≡ takes t (to (move_from w i j 1 c)) (code_of c) → found_between t w i j ≡ cond r (move_from w i j 1 c ∷ []) []
   unfolding offered
   one_found c r top cards e =
@@ -99,7 +99,7 @@ module _ (t : Table) (w : Way) (i j : ℕ) (one : w ≡ ColumnToColumn → ⊥) 
       (ap (λ (p : Place). get_or (last_of 1 (there t p)) 0 0) (comes_from w i j 1 c h) ∙ top_code_lem (there t (source w i)) c top cards ∙ ap code_of (sym s.named))
       ∙ ap (λ (d : Card). takes t (to (move_from w i j 1 c)) (code_of d)) s.named ∙ sym e)
 
-pub none_from : (t : Table) (w : Way) (i : ℕ) → (w ≡ ColumnToColumn → ⊥) → i < source_count w → top_of (there t (source w i)) ≡ Empty → found_from t w i ≡ []
+pub none_from : (t : Table) (w : Way) (i : ℕ) → (w ≡ ColumnToColumn → ⊥) → i < source_count w → top_of (there t (source w i)) ≡ None → found_from t w i ≡ []
 unfolding found_from
 none_from t w i one h e = gather_nothing (found_between t w i) (target_count w) (λ j l. none_found t w i j one h e)
 

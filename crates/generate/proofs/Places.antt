@@ -1,5 +1,5 @@
 -- What a record says of its places: the top of each, and what each takes.
-use mathlib.Core.Path.{◌≡◌, sym, ap, ◌∙◌, subst}
+use mathlib.Core.Path.{◌≡◌, sym, ap, ◌∙◌}
 use mathlib.Core.Bool.{Bool, true}
 use Prim.Native.Nat.{ℕ, ◌<◌}
 use borrow.Author.Tests.{lt-ltb}
@@ -18,16 +18,9 @@ use Rattle.moves.specs.declared.Place.TheVariants.{Column as column, Cell as cel
 use Rattle.moves.specs.Play.{there, takes}
 use Rattle.moves.proofs.Fairness.{fair_cards}
 use Rattle.play.proofs.Landing.{shown-takes_column, shown-takes-home, shown-takes_cell}
-use Rattle.generate.specs.Found.{source_count, target_count, source}
+use Rattle.generate.specs.Found.{source_count, source}
 use Rattle.generate.specs.declared.Way.{Way}
 use Rattle.generate.specs.declared.Way.TheVariants.{ColumnToColumn, ColumnToHome, ColumnToCell, CellToColumn, CellToHome, HomeToColumn}
-
--- a place of a known kind
-pub from_below : {w v : Way} (i : ℕ) → i < source_count w → w ≡ v → i < source_count v
-from_below i h e = subst (λ (w : Way). i < source_count w) e h
-
-pub to_below : {w v : Way} (j : ℕ) → j < target_count w → w ≡ v → j < target_count v
-to_below j h e = subst (λ (w : Way). j < target_count w) e h
 
 -- ---- only cards lie there
 

@@ -1,11 +1,11 @@
 -- Moves listed: their records written into lent room, their number told; 12 to 15 if the board is not fine, then 21 for too little room.
-use Rattle.std.specs.Prelude.{◌≡◌, List, ℕ, leb, length}
+use Rattle.board.specs.Refusal.{answered}
+use Rattle.board.specs.declared.Refusal.{Refusal}
+use Rattle.std.specs.Prelude.{◌≡◌, List, ℕ, leb, length, Result}
 use Rattle.base.specs.Answer.{Answer, given, refused, unless}
 use Rattle.board.specs.Verdict.{after}
 use Rattle.board.specs.Record.{examined}
 use Rattle.board.specs.declared.Board.{Board}
-use Rattle.questions.specs.Told.{count_told}
-use Rattle.questions.specs.declared.CountAnswer.{CountAnswer}
 use Rattle.moves.specs.declared.Move.{Move}
 use Rattle.moves.specs.Written.{written}
 
@@ -23,6 +23,6 @@ room_after (given n) old ms = written old 0 ms
 room_after (refused n) old ms = old
 
 -- an entry point lists these moves of a board: the number it tells, and the room it leaves
-pub record Finds (b : Board) (ms : List Move) (old new : List ℕ) (r : CountAnswer) : Type 0 where
-  pub told : count_told r ≡ found_asked b ms (length old)
+pub record Finds (b : Board) (ms : List Move) (old new : List ℕ) (r : Result ℕ Refusal) : Type 0 where
+  pub told : answered r ≡ found_asked b ms (length old)
   pub room : new ≡ room_after (found_asked b ms (length old)) old ms

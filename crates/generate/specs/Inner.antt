@@ -1,5 +1,5 @@
 -- What the inner functions ask before they offer a move.
-use Rattle.std.specs.Prelude.{◌≡◌, List, ℕ, suc, ◌<◌, ◌≤◌}
+use Rattle.std.specs.Prelude.{◌≡◌, List, ℕ, suc, ◌<◌, ◌≤◌, Some}
 use Rattle.base.specs.Words.{listed}
 use Rattle.card.specs.declared.Card.{Card}
 use Rattle.board.specs.Table.{Table}
@@ -7,7 +7,6 @@ use Rattle.board.specs.Record.{column_at, shown}
 use Rattle.board.specs.Inner.{Sound}
 use Rattle.board.specs.declared.Board.{Board}
 use Rattle.questions.specs.Questions.{top_of}
-use Rattle.questions.specs.declared.Top.TheVariants.{Is}
 use Rattle.runs.specs.Run.{run_length}
 use Rattle.rules.specs.Limit.{most_moved}
 use Rattle.moves.specs.Play.{there}
@@ -22,7 +21,7 @@ pub record Offers (b : Board) (w : Way) (i j : ℕ) (c : Card) : Type 0 where
   pub single : w ≡ ColumnToColumn → ⊥
   pub leaves : i < source_count w
   pub goes : j < target_count w
-  pub top : top_of (there (shown b) (source w i)) ≡ Is c
+  pub top : top_of (there (shown b) (source w i)) ≡ Some c
 
 -- a move of k + 1 cards from column i to another: they are a run, and within the limit
 pub record Reaches (b : Board) (i j k : ℕ) : Type 0 where

@@ -1,5 +1,6 @@
 -- Reading an image case by case, and the record that an accepted one fills.
-use mathlib.Core.Path.{◌≡◌, refl, sym, ap, ◌∙◌}
+use Rattle.std.specs.Prelude.{Err, Ok, Result}
+use mathlib.Core.Path.{◌≡◌, refl, ap, ◌∙◌}
 use mathlib.Core.Bool.{true, false}
 use mathlib.Core.List.{List}
 use Prim.Native.Nat.{ℕ, ◌+◌, ◌-◌, ◌*◌, ◌<◌, ◌≤◌}
@@ -13,28 +14,13 @@ use Rattle.base.specs.Answer.{Answer, given, refused}
 use Rattle.base.proofs.Words.{listed_same, second_fails, both}
 use Rattle.board.specs.Verdict.{verdict_on}
 use Rattle.board.specs.Record.{at_most, board_of, laid, tableau_room}
-use Rattle.intake.specs.Handed.{blank}
-use Rattle.board.specs.Refusal.{number_of, examined_told}
-use Rattle.intake.specs.Handed.{reading_told, beside}
+use Rattle.board.specs.Refusal.{number_of, answered}
 use Rattle.board.proofs.Tables.{part_length}
 use Rattle.board.proofs.Records.{record_of_columns, listed_back}
 use Rattle.intake.specs.Image.{framed, versioned, columns_in, verdict_with, bodied, image_read}
 use Rattle.board.specs.Inner.{part_at, Parts}
-use Rattle.intake.specs.Handed.{Hands}
 use Rattle.intake.specs.Inside.{part_code}
-use Rattle.board.specs.declared.Board.{Board}
-use Rattle.intake.specs.declared.Reading.{Reading}
 use Rattle.board.specs.declared.Refusal.{Refusal}
-use Rattle.board.specs.declared.Examined.{Examined}
-use Rattle.board.specs.declared.Examined.TheVariants.{WellFormed, Refused}
-
--- ---- what is handed over
-
-pub hands_no : {a : Answer Board} {r : Reading} {why : Refusal} → r ≡ record { said = Refused why; board = blank } → a ≡ refused (number_of why) → Hands a r
-hands_no e q = record { told = ap reading_told e ∙ sym q; board = ap (λ (x : Reading). x.board) e ∙ ap beside (sym q) }
-
-pub hands_yes : {a : Answer Board} {b : Board} → a ≡ given b → Hands a (record { said = WellFormed; board = b })
-hands_yes q = record { told = sym q; board = ap beside (sym q) }
 
 -- ---- the record of parts
 
@@ -72,13 +58,13 @@ pub columns_refused : (cells foundation : List ℕ) → verdict_with cells found
 unfolding verdict_with
 columns_refused cells foundation = refl
 
-module _ (cells foundation : List ℕ) (columns : List (List ℕ)) {r : Examined}
-    (e : examined_told r ≡ verdict_on (record { cells = cells; foundation = foundation; columns = columns })) where
-  pub columns_bad : {why : Refusal} → r ≡ Refused why → verdict_with cells foundation (given columns) ≡ refused (number_of why)
+module _ (cells foundation : List ℕ) (columns : List (List ℕ)) {r : Result (Unit {0}) Refusal}
+    (e : answered r ≡ verdict_on (record { cells = cells; foundation = foundation; columns = columns })) where
+  pub columns_bad : {why : Refusal} → r ≡ Err why → verdict_with cells foundation (given columns) ≡ refused (number_of why)
   unfolding verdict_with
   columns_bad q = rw (← e, q)
 
-  pub columns_good : r ≡ WellFormed
+  pub columns_good : r ≡ Ok tt
       → verdict_with cells foundation (given columns) ≡ given (board_of (record { cells = cells; foundation = foundation; columns = columns }))
   unfolding verdict_with
   columns_good q = rw (← e, q)

@@ -1,6 +1,5 @@
 -- Walking over an image's columns: what is left to be read from here is what the whole reading gives.
-use mathlib.Core.Path.{◌≡◌, refl, sym, ap, ◌∙◌}
-use mathlib.Core.Bool.{true, false}
+use mathlib.Core.Path.{◌≡◌, refl, sym, ap, ◌∙◌, subst}
 use mathlib.Core.List.{List, [], ◌∷◌, ◌++◌, append_assoc, append-nil}
 use Prim.Native.Nat.{ℕ, suc, ◌+◌, ◌-◌, ◌<◌, ◌≤◌}
 use native.Mathlib.Numerals.{add-one}
@@ -11,18 +10,13 @@ use lib.ListN.{length, get_or, take, drop, set, replicate, length-set, length-dr
 use lib.Seq.{get_or-set_same, get_or-set_other, drop-cons, drop-drop}
 use Rattle.base.specs.Words.{listed}
 use Rattle.base.specs.Answer.{Answer, given, refused}
-use Rattle.base.proofs.Words.{true_or_not, listed_same, listed_more}
+use Rattle.base.proofs.Words.{listed_same, listed_more}
 use Rattle.board.proofs.Tables.{part_same, part_at_lem}
 use Rattle.intake.specs.Image.{joining, columns_in}
-use Rattle.board.specs.Inner.{part_at, Parts}
-use Rattle.intake.specs.Inside.{Outlined}
-
-pub outlined_no : {image starts counts : List ℕ} → columns_in 8 (drop 11 image) ≡ refused 12 → Outlined image false starts counts
-outlined_no e = record { parts = λ q. true_or_not false q refl; columns = λ q. true_or_not false q refl; none = λ q. e }
-
-pub outlined_yes : {image starts counts : List ℕ} → Parts starts counts image
-    → columns_in 8 (drop 11 image) ≡ given (listed 8 (part_at starts counts image)) → Outlined image true starts counts
-outlined_yes p e = record { parts = λ q. p; columns = λ q. e; none = λ q. true_or_not true refl q }
+use Rattle.board.specs.Inner.{part_at}
+use Rattle.std.specs.Prelude.{Option, Some, None}
+use Rattle.intake.specs.Inside.{Lies, Outlined}
+use Rattle.intake.specs.declared.image.Outline.{Outline}
 
 -- columns read before, and those still to come
 abbrev pub prefixing : List (List ℕ) → Answer (List (List ℕ)) → Answer (List (List ℕ))
@@ -91,23 +85,25 @@ module _ {image starts counts : List ℕ} {at i : ℕ} (a : Walk image starts co
       ∙ ap (λ (m : ℕ). prefixing (listed i (part_at starts counts image)) (columns_in m (drop at image))) (let w : 8 - i ≡ n = omega arith in w)
       ∙ ap (prefixing (listed i (part_at starts counts image))) q
 
-  pub walk_short : i < 8 → length image ≤ at → Outlined image false starts counts
-  walk_short h b = outlined_no (given_by (suc (7 - i)) (omega arith) (read_none (7 - i) image at b))
+  pub walk_short : i < 8 → length image ≤ at → columns_in 8 (drop 11 image) ≡ refused 12
+  walk_short h b = (given_by (suc (7 - i)) (omega arith) (read_none (7 - i) image at b))
 
-  pub walk_past : i < 8 → at < length image → (w : ℕ) → w ≡ get_or image at 0 → length image < at + 1 + w → Outlined image false starts counts
-  walk_past h l w e b = outlined_no (given_by (suc (7 - i)) (omega arith) (read_past (7 - i) image at l (omega arith)))
+  pub walk_past : i < 8 → at < length image → (w : ℕ) → w ≡ get_or image at 0 → length image < at + 1 + w → columns_in 8 (drop 11 image) ≡ refused 12
+  walk_past h l w e b = (given_by (suc (7 - i)) (omega arith) (read_past (7 - i) image at l (omega arith)))
 
-  pub walk_over : 8 ≤ i → at < length image → Outlined image false starts counts
+  pub walk_over : 8 ≤ i → at < length image → columns_in 8 (drop 11 image) ≡ refused 12
   unfolding columns_in
-  walk_over h l = outlined_no (given_by 0 (let u = a.upto in omega arith) (ap (columns_in 0) (split 0 image at l)))
+  walk_over h l = (given_by 0 (let u = a.upto in omega arith) (ap (columns_in 0) (split 0 image at l)))
 
-  pub walk_end : 8 ≤ i → length image ≤ at → Outlined image true starts counts
+  pub walk_end : 8 ≤ i → length image ≤ at → Lies image starts counts
   unfolding columns_in
   walk_end h l =
-      outlined_yes (record { starts8 = a.starts8; counts8 = a.counts8; within = λ k b. a.within k (omega arith) })
-      (given_by 0 (let u = a.upto in omega arith) (ap (columns_in 0) (drop_of_length-le image l))
-      ∙ ap (λ (p : List (List ℕ)). given p) (append-nil (listed i (part_at starts counts image)))
-      ∙ ap (λ (n : ℕ). given (listed n (part_at starts counts image))) (let u = a.upto in let w : i ≡ 8 = omega arith in w))
+      record {
+        parts = record { starts8 = a.starts8; counts8 = a.counts8; within = λ k b. a.within k (omega arith) };
+        columns = given_by 0 (let u = a.upto in omega arith) (ap (columns_in 0) (drop_of_length-le image l))
+            ∙ ap (λ (p : List (List ℕ)). given p) (append-nil (listed i (part_at starts counts image)))
+            ∙ ap (λ (n : ℕ). given (listed n (part_at starts counts image))) (let u = a.upto in let w : i ≡ 8 = omega arith in w);
+      }
 
   module _ (h : i < 8) (w : ℕ) (e : w ≡ get_or image at 0) (b : at + 1 + w ≤ length image) where
     before : (k : ℕ) → k < i → part_at starts counts image k ≡ part_at (set starts i (at + 1)) (set counts i (get_or image at 0)) image k
@@ -149,3 +145,12 @@ module _ {image starts counts : List ℕ} {at i : ℕ} (a : Walk image starts co
               ∙ ap (λ (p : List (List ℕ)). prefixing p (columns_in (8 - (i + 1)) (drop (at + 1 + get_or image at 0) image))) columns
               ∙ ap (λ (n : ℕ). prefixing (listed (i + 1) (part_at (set starts i (at + 1)) (set counts i (get_or image at 0)) image)) (columns_in (8 - (i + 1)) (drop (at + 1 + n) image))) (sym e);
         }
+
+-- ---- what is known where the columns were looked for
+
+module _ (image : List ℕ) {r : Option Outline} (k : Outlined image r) where
+  pub lies_yes : {o : Outline} → r ≡ Some o → Lies image o.starts o.counts
+  lies_yes e = subst (Outlined image) e k
+
+  pub lies_no : r ≡ None → columns_in 8 (drop 11 image) ≡ refused 12
+  lies_no e = subst (Outlined image) e k

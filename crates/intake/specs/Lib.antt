@@ -1,5 +1,4 @@
 -- Read these in this order.
-pub mod Handed
 pub mod Image
 pub mod Deal
 pub mod Number

@@ -1,24 +1,23 @@
 // Hands by number: the deck of the number, dealt.
 ghost use Rattle.std.specs.Prelude.{◌≡◌};
+ghost use Rattle.board.specs.Refusal.{answered};
 ghost use Rattle.intake.specs.Number.{number_asked};
-ghost use Rattle.intake.specs.Handed.{Hands};
 
 use crate::deal::deal;
-use crate::{Reading, no_board};
-use board::Refusal;
+use board::{Board, Refusal};
 
 // The largest number.
 const MOST_NUMBER: usize = 32_000;
 
 // 41, or the board of the number.
-pub fn hand(number: usize) -> Reading
-    ensures { Hands (number_asked number) result }
+pub fn hand(number: usize) -> Result<Board, Refusal>
+    ensures { answered result ≡ number_asked number }
 {
     if number == 0 {
-        return no_board(Refusal::NoNumber);
+        return Err(Refusal::NoNumber);
     }
     if MOST_NUMBER < number {
-        return no_board(Refusal::NoNumber);
+        return Err(Refusal::NoNumber);
     }
     let deck = shuffle::deck_of(number);
     deal(&deck)

@@ -1,24 +1,14 @@
--- The place of a new node, and the birth there: kin as before, with one mark and one child more.
+-- The birth of a node at its place: kin as before, with one mark and one child more.
 use mathlib.Core.Path.{◌≡◌, sym, ap, ◌∙◌}
 use mathlib.Core.List.{List, ◌∷◌}
 use Prim.Native.Nat.{ℕ, ◌+◌, ◌*◌, ◌<◌, ◌≤◌}
 use native.Mathlib.Omega.{arith}
 use native.Mathlib.Decide.{ℕ_discrete}
-use borrow.Author.Tests.{lt-ltb, le-ltb}
 use lib.ListN.{length, get_or}
-use Rattle.kin.specs.Places.{parent_at, refs_at, top_at, Kin, next_place}
+use Rattle.kin.specs.Places.{parent_at, refs_at, top_at, Kin}
 use Rattle.kin.proofs.Marks.{But, Taken, taken, held_taken}
 use Rattle.kin.proofs.Roots.{rooted_taken, taken_fresh, rooted_fresh, held-fresh}
 use Rattle.kin.proofs.Needed.{root_held}
-
-module _ (slots : List ℕ) (capacity fresh living : ℕ) where
-  pub next_top : {r : ℕ} → living < fresh → r ≡ get_or slots (top_at capacity fresh living) 0 → r ≡ next_place slots capacity fresh living
-  unfolding next_place
-  next_top l e = rw (lt-ltb living fresh l) e
-
-  pub next_fresh : fresh ≤ living → fresh ≡ next_place slots capacity fresh living
-  unfolding next_place
-  next_fresh l = rw (le-ltb living fresh l)
 
 -- ---- a birth: a child of place p
 

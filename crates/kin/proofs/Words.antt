@@ -1,5 +1,5 @@
 -- A place's count changes in memory, and nothing else does.
-use mathlib.Core.Path.{◌≡◌, ap, ◌∙◌}
+use mathlib.Core.Path.{◌≡◌, ◌∙◌}
 use mathlib.Core.List.{List}
 use Prim.Native.Nat.{ℕ, ◌+◌, ◌*◌, ◌<◌, ◌≤◌}
 use native.Mathlib.Omega.{arith}
@@ -38,8 +38,3 @@ module _ (words : List ℕ) (i refs : ℕ) where
 
   pub refs_but : (n : ℕ) → But n i (refs_at words) (refs_at (counting words i refs))
   refs_but n = record { same = λ k l d. refs_else k d }
-
--- a count was read, and one more written
-pub held_by : (words : List ℕ) (i : ℕ) {refs : ℕ} {then : List ℕ} → refs ≡ refs_at words i → then ≡ counting words i (refs + 1)
-    → then ≡ counting words i (refs_at words i + 1)
-held_by words i e f = f ∙ ap (λ (x : ℕ). counting words i (x + 1)) e

@@ -5,23 +5,18 @@
 ghost use Rattle.std.specs.Prelude.{◌≡◌, ◌+◌, ◌*◌, ◌-◌, ◌<◌, ◌≤◌, length};
 ghost use Rattle.kin.specs.Places.{parent_at, refs_at, counting, Pending, keeps, given_back, next_place};
 
-// A word as an index.
-fn wide(x: u32) -> usize
-    ensures { result ≡ x }
-{
-    x as usize
-}
-
 // The place of a node's parent.
+#[tactic(auto, unfolding(crate::specs::Places::parent_at))]
 pub fn parent_of(words: &[u32], i: usize) -> usize
     requires { (i + 1) * 5 ≤ length words.now }
     ensures { result ≡ parent_at words.now i }
 {
     let at = i * 5;
-    wide(words[at])
+    words[at] as usize
 }
 
 // A place's count.
+#[tactic(auto, unfolding(crate::specs::Places::refs_at))]
 pub fn refs_of(words: &[u32], i: usize) -> u32
     requires { (i + 1) * 5 ≤ length words.now }
     ensures { result ≡ refs_at words.now i }
@@ -32,6 +27,7 @@ pub fn refs_of(words: &[u32], i: usize) -> u32
 }
 
 // Another count for a place.
+#[tactic(auto, unfolding(crate::specs::Places::counting))]
 fn put_refs(words: &mut [u32], i: usize, refs: u32)
     requires { (i + 1) * 5 ≤ length words.old }
     ensures { words.new ≡ counting words.old i refs }
@@ -68,6 +64,7 @@ pub fn let_go(
     let mut at = i;
     let mut left = living;
     let mut refs = refs_of(words, at);
+    // no `for`: parent after parent, for as long as nothing else points there
     while refs == 1 {
         put_refs(words, at, 0);
         left -= 1;
@@ -84,6 +81,7 @@ pub fn let_go(
 }
 
 // The place of a new node: the top of the stack, or the first place that was never used.
+#[tactic(auto, unfolding(crate::specs::Places::next_place))]
 pub fn take(slots: &[u32], capacity: usize, fresh: usize, living: usize) -> usize
     requires living_le_fresh { living ≤ fresh }
     requires fresh_le_capacity { fresh ≤ capacity }
@@ -93,7 +91,7 @@ pub fn take(slots: &[u32], capacity: usize, fresh: usize, living: usize) -> usiz
     if living < fresh {
         let free = fresh - living;
         let top = capacity - free;
-        return wide(slots[top]);
+        return slots[top] as usize;
     }
     fresh
 }

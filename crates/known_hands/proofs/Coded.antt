@@ -1,5 +1,6 @@
 -- P1 to P11 for the code: a call of `solve`, of `heuristic_of` or `progress_of`, of `max_movable_cards` or of `is_safe` that keeps its
 -- promise answers each hand as the table says.
+use Rattle.std.specs.Prelude.{Result}
 use mathlib.Core.Path.{◌≡◌, refl, sym, ap, ◌∙◌, subst}
 use mathlib.Core.Bool.{Bool, true, false, not, xor, ◌&&◌}
 use mathlib.Core.List.{List, [], ◌∷◌}
@@ -14,16 +15,14 @@ use Rattle.base.proofs.Words.{first, second}
 use Rattle.board.specs.Table.{Table}
 use Rattle.board.specs.Verdict.{Verdict, fine, after}
 use Rattle.board.specs.Record.{shown, examined}
+use Rattle.board.specs.Refusal as refusal
 use Rattle.board.specs.declared.Board.{Board}
-use Rattle.questions.specs.Told.{count_told}
-use Rattle.questions.specs.declared.CountAnswer.{CountAnswer}
+use Rattle.board.specs.declared.Refusal.{Refusal}
 use Rattle.rules.specs.Limit.{most_moved}
-use Rattle.rules.specs.Asked.{most_asked, yes_told}
-use Rattle.rules.specs.declared.YesNo.{YesNo}
+use Rattle.rules.specs.Asked.{most_asked}
 use Rattle.features.specs.Features.{features_of}
 use Rattle.score.specs.Scores.{heuristic, progress}
-use Rattle.score.specs.Asked.{score_told, heuristic_asked, progress_asked}
-use Rattle.score.specs.declared.ScoreAnswer.{ScoreAnswer}
+use Rattle.score.specs.Asked.{heuristic_asked, progress_asked}
 use Rattle.safe.specs.Safe.{safe}
 use Rattle.safe.specs.Asked.{safe_asked}
 use Rattle.search.specs.Game.{among}
@@ -106,8 +105,8 @@ module _ (b : Board) (ok : examined b ≡ fine) where
   progress-told = ap (λ (v : Verdict). after v (given (progress (features_of (shown b))))) ok
 
   -- for every hand of the table that asks for scores, and every well-formed board that shows it
-  pub code_scores : (h : Hand) → among h hands → (x y : ℤ) → h.question ≡ scores x y → shown b ≡ h.board → (r s : ScoreAnswer) → score_told r ≡ heuristic_asked b
-      → score_told s ≡ progress_asked b → Scored r x × Scored s y
+  pub code_scores : (h : Hand) → among h hands → (x y : ℤ) → h.question ≡ scores x y → shown b ≡ h.board → (r s : Result ℤ Refusal) → refusal.answered r ≡ heuristic_asked b
+      → refusal.answered s ≡ progress_asked b → Scored r x × Scored s y
   code_scores h i x y q table r s e f =
       let claim : (same_score (heuristic (features_of (shown b))) x && same_score (progress (features_of (shown b))) y) ≡ true = claimed h i q table in
       let one = first (same_score (heuristic (features_of (shown b))) x) (same_score (progress (features_of (shown b))) y) claim in
@@ -135,16 +134,16 @@ module _ (b : Board) (ok : examined b ≡ fine) where
   safe-told x e = rw (ok, e)
 
   -- for every hand of the table that asks for the limit into a column, and every well-formed board that shows it
-  pub code_limit : (h : Hand) → among h hands → (to n : ℕ) → h.question ≡ limit to n → shown b ≡ h.board → (r : CountAnswer) → count_told r ≡ most_asked b to
-      → count_told r ≡ given n
+  pub code_limit : (h : Hand) → among h hands → (to n : ℕ) → h.question ≡ limit to n → shown b ≡ h.board → (r : Result ℕ Refusal) → refusal.answered r ≡ most_asked b to
+      → refusal.answered r ≡ given n
   code_limit h i to n q table r e =
       let most : ℕ = most_moved (shown b).cells (shown b).columns to in
       let claim : (ltb to 8 && eqb most n) ≡ true = claimed h i q table in
       e ∙ limit_told to (first (ltb to 8) (eqb most n) claim) ∙ ap given (eqb-true most n (second (ltb to 8) (eqb most n) claim))
 
   -- for every hand of the table that asks whether a card is safe, and every well-formed board that shows it
-  pub code_safe : (h : Hand) → among h hands → (x : ℕ) (flag : Bool) → h.question ≡ safely x flag → shown b ≡ h.board → (r : YesNo) → yes_told r ≡ safe_asked b x
-      → yes_told r ≡ given flag
+  pub code_safe : (h : Hand) → among h hands → (x : ℕ) (flag : Bool) → h.question ≡ safely x flag → shown b ≡ h.board → (r : Result Bool Refusal) → refusal.answered r ≡ safe_asked b x
+      → refusal.answered r ≡ given flag
   code_safe h i x flag q table r e =
       let is : Bool = safe (shown b).foundation x in
       let claim : (is_card x && not (xor is flag)) ≡ true = claimed h i q table in

@@ -1,11 +1,11 @@
 -- A call of the search, and a score that was asked for, are answered as a hand says.
-use Rattle.std.specs.Prelude.{◌≡◌, true, List, ℕ, ℤ}
+use Rattle.board.specs.Refusal.{answered}
+use Rattle.board.specs.declared.Refusal.{Refusal}
+use Rattle.std.specs.Prelude.{◌≡◌, true, List, ℕ, ℤ, Result}
 use Rattle.base.specs.Answer.{given}
 use Rattle.board.specs.declared.Board.{Board}
 use Rattle.moves.specs.declared.Move.{Move}
 use Rattle.moves.specs.Written.{written}
-use Rattle.score.specs.Asked.{score_told}
-use Rattle.score.specs.declared.ScoreAnswer.{ScoreAnswer}
 use Rattle.search.specs.Solve.{Perhaps}
 use Rattle.finish.specs.Said.{moves_of}
 use Rattle.solver.specs.Told.{Call, number}
@@ -20,7 +20,7 @@ pub record Answers {b : Board} (c : Call b) (n p : ℕ) (l : Perhaps (List ℕ))
   pub list : c.list_after ≡ written c.list 0 (moves_of moves)
 
 -- a score is told, and it is x
-pub record Scored (r : ScoreAnswer) (x : ℤ) : Type 0 where
+pub record Scored (r : Result ℤ Refusal) (x : ℤ) : Type 0 where
   pub value : ℤ
-  pub told : score_told r ≡ given value
+  pub told : answered r ≡ given value
   pub same : same_score value x ≡ true

@@ -1,4 +1,5 @@
 -- The chain written turn by turn, a step, and step after step.
+use Rattle.std.specs.Prelude.{Some, None}
 use mathlib.Core.Path.{◌≡◌, refl, sym, ap, ◌∙◌}
 use mathlib.Core.List.{List, [], ◌∷◌, ◌++◌, append_assoc, append-nil}
 use Prim.Native.Nat.{ℕ, zero, suc, ◌+◌, ◌-◌, ◌*◌, ◌<◌, ◌≤◌}
@@ -19,7 +20,6 @@ use Rattle.moves.specs.Written.{Adds}
 use Rattle.moves.proofs.Writing.{adds_none, adds_same, adds_long, adds_more}
 use Rattle.safe.specs.Safe.{first_safe}
 use Rattle.safe.specs.Chain.{chain_of, chain}
-use Rattle.safe.specs.declared.SafeMove.TheVariants.{Is, NoMove}
 use Rattle.safe.proofs.Chaining.{chain_next, chain_none, chain_stops}
 use Rattle.safe.proofs.Handing.{chain_ready}
 use Rattle.candidates.specs.Children.{child_moves}
@@ -56,7 +56,7 @@ module _ {b : Board} {old : List ℕ} {n : ℕ} (room : (n + length (chain (show
   pub going_long : length now ≡ length old
   going_long = adds_long so_far g.adds
 
-  module _ {m : Move} (below : moves < 52) (e : first_safe (shown board) ≡ Is m) where
+  module _ {m : Move} (below : moves < 52) (e : first_safe (shown board) ≡ Some m) where
     left : chain_of (52 - moves) (shown board) ≡ m ∷ chain_of (52 - (moves + 1)) (after_move (shown board) m)
     left =
         ap (λ (k : ℕ). chain_of k (shown board)) (let q : 52 - moves ≡ suc (52 - (moves + 1)) = omega arith in q)
@@ -95,7 +95,7 @@ module _ {b : Board} {old : List ℕ} {n : ℕ} (room : (n + length (chain (show
         sound = g.sound;
       }
 
-  pub going_stop : first_safe (shown board) ≡ NoMove → Writes b (chain (shown b)) old now n (record { board = board; records = records })
+  pub going_stop : first_safe (shown board) ≡ None → Writes b (chain (shown b)) old now n (record { board = board; records = records })
   going_stop e = done (chain_stops (52 - moves) (shown board) e)
 
   pub going_full : 52 ≤ moves → Writes b (chain (shown b)) old now n (record { board = board; records = records })
@@ -186,9 +186,6 @@ module _ {root : Board} {path : List ℕ} {deep : ℕ} (w : Leads root path deep
           down = descend_turn w k.down some (written_plays x);
           adds = adds_same (sym (descend_line w k.down some)) (adds_more told-room k.adds x.adds);
         }
-
-  pub telling_end : left ≤ 0 → Adds old now 0 records (line_by (shown root) (take deep path))
-  telling_end h = adds_same (ap (λ (j : ℕ). line_by (shown root) (drop j (take deep path))) (let q : left ≡ 0 = omega arith in q)) k.adds
 
 -- ---- the path of a node
 

@@ -15,8 +15,7 @@ ghost use Rattle.nodes.specs.Path.{Leads};
 ghost use Rattle.lines.specs.Written.{Writes};
 
 use board::Board;
-use moves::{Decoded, MOST_MOVES};
-use safe::SafeMove;
+use moves::MOST_MOVES;
 
 // The board after some moves, and how many records stand in the list then.
 #[derive(Clone, Copy)]
@@ -33,9 +32,8 @@ fn write_chain(b: Board, list: &mut [u8], n: usize) -> Written
 {
     let mut board = b;
     let mut records = n;
-    let mut moves = 0usize;
-    while moves < 52 {
-        let SafeMove::Is(m) = safe::first_safe_at(
+    for _ in 0..52u8 {
+        let Some(m) = safe::first_safe_at(
             &board.cells,
             &board.foundation,
             &board.counts,
@@ -45,7 +43,6 @@ fn write_chain(b: Board, list: &mut [u8], n: usize) -> Written
         };
         records = moves::write(list, records, m);
         board = play::apply_at(board, m);
-        moves += 1;
     }
     Written { board, records }
 }
@@ -57,7 +54,7 @@ fn write_step(b: Board, step: u32, list: &mut [u8], n: usize) -> Written
     requires step_in_bounds { (n + length (child_moves (shown b) (move_in step))) * 5 ≤ length list.old }
     ensures { Writes b (child_moves (shown b) (move_in step)) list.old list.new n result }
 {
-    let Decoded::Is(m) = nodes::words::move_in(step) else {
+    let Some(m) = nodes::words::move_in(step) else {
         return Written {
             board: b,
             records: n,
@@ -76,9 +73,7 @@ fn write_down(root: Board, path: &[u32], deep: usize, list: &mut [u8]) -> usize
 {
     let mut board = root;
     let mut records = 0;
-    let mut left = deep;
-    while 0 < left {
-        left -= 1;
+    for left in (0..deep).rev() {
         let written = write_step(board, path[left], list, records);
         board = written.board;
         records = written.records;

@@ -1,4 +1,5 @@
 -- What a search does with one child, case by case, as the memory tells the case.
+use Rattle.std.specs.Prelude.{Some, None}
 use mathlib.Core.Path.{◌≡◌, refl, sym, ap, ap₂, ◌∙◌}
 use mathlib.Core.Bool.{Bool, true, false, ◌||◌}
 use mathlib.Core.List.{List}
@@ -19,7 +20,6 @@ use Rattle.search.specs.Freecell.{freecell}
 use Rattle.search.specs.Solve.{Perhaps, Node, grown, as_good, child_of, dropped, no_room, born_as, bear}
 use Rattle.memory.specs.declared.Room.{Room}
 use Rattle.memory.specs.declared.Counts.{Counts}
-use Rattle.memory.specs.declared.Growth.TheVariants as growth
 use Rattle.memory.specs.Memory.{Memory}
 use Rattle.memory.specs.View.{told, node_of, state_of, grown_of, known_in}
 use Rattle.memory.specs.Machine.{Machine}
@@ -71,16 +71,16 @@ module _ {t : Table} {r : Room} {m : Memory} {c : Counts} (k : Machine t r m c) 
   bear_is a b p q = ap₂ (λ (x y : Bool). born_as freecell x y theirs (state_of t r m c)) p q
 
   dropped_bears : dropped freecell theirs (state_of t r m c) ≡ true
-      → bear freecell r.capacity (node_of t m.nodes parent) move (state_of t r m c) ≡ grown_of t r m (growth.Grown c)
+      → bear freecell r.capacity (node_of t m.nodes parent) move (state_of t r m c) ≡ grown_of t r m (Some c)
   dropped_bears e = bear_is true (no_room freecell r.capacity (state_of t r m c)) e refl
 
   -- over the depth
-  pub bears_deep : 200 < cost → bear freecell r.capacity (node_of t m.nodes parent) move (state_of t r m c) ≡ grown_of t r m (growth.Grown c)
+  pub bears_deep : 200 < cost → bear freecell r.capacity (node_of t m.nodes parent) move (state_of t r m c) ≡ grown_of t r m (Some c)
   bears_deep l = dropped_bears (dropped_is ∙ ap (λ (b : Bool). b || as_good (told (cost_in m.keys m.costs r.entries (signature_of child))) cost) (lt-ltb 200 cost l))
 
   -- a cost not above its own is known
   pub bears_known : as_good (told (cost_in m.keys m.costs r.entries (signature_of child))) cost ≡ true
-      → bear freecell r.capacity (node_of t m.nodes parent) move (state_of t r m c) ≡ grown_of t r m (growth.Grown c)
+      → bear freecell r.capacity (node_of t m.nodes parent) move (state_of t r m c) ≡ grown_of t r m (Some c)
   bears_known e = dropped_bears (dropped_is ∙ ap (λ (b : Bool). ltb 200 cost || b) e ∙ or_true (ltb 200 cost))
 
   module _ (short : cost ≤ 200) (fresh : as_good (told (cost_in m.keys m.costs r.entries (signature_of child))) cost ≡ false) where
@@ -88,11 +88,11 @@ module _ {t : Table} {r : Room} {m : Memory} {c : Counts} (k : Machine t r m c) 
     passes = dropped_is ∙ ap₂ ◌||◌ (le-ltb 200 cost short) fresh
 
     -- no room
-    pub bears_full : r.capacity ≤ c.born → bear freecell r.capacity (node_of t m.nodes parent) move (state_of t r m c) ≡ grown_of t r m growth.OutOfNodes
+    pub bears_full : r.capacity ≤ c.born → bear freecell r.capacity (node_of t m.nodes parent) move (state_of t r m c) ≡ grown_of t r m None
     bears_full l = bear_is false true passes (no_room_is ∙ le-leb r.capacity c.born l)
 
     -- borne
     pub bears_born : Fair t → {new : Memory} {slot : ℕ} → c.born < r.capacity → Spot r m (signature_of child) slot → Wrote r m new c parent move cost slot child
-        → bear freecell r.capacity (node_of t m.nodes parent) move (state_of t r m c) ≡ grown_of t r new (growth.Grown (counted c child))
+        → bear freecell r.capacity (node_of t m.nodes parent) move (state_of t r m c) ≡ grown_of t r new (Some (counted c child))
     bears_born f room spot w =
         bear_is false false passes (no_room_is ∙ lt-leb r.capacity c.born room) ∙ ap grown (sym (state_wrote f k h short room spot w))

@@ -1,4 +1,5 @@
 -- A node's candidates, one after the other: what is left to expand from here is what the whole expansion gives.
+use Rattle.std.specs.Prelude.{Some}
 use mathlib.Core.Path.{◌≡◌, refl, sym, ap, ap₂, ◌∙◌, subst}
 use mathlib.Core.Bool.{Bool, true, false}
 use mathlib.Core.List.{List, [], ◌∷◌}
@@ -19,7 +20,6 @@ use Rattle.search.specs.Freecell.{freecell}
 use Rattle.search.specs.Solve.{Node, State, Grown, out_of_nodes, grown, child_of, dropped, no_room, bearing, born_as, bear, then_grow, expand}
 use Rattle.memory.specs.declared.Room.{Room}
 use Rattle.memory.specs.declared.Counts.{Counts}
-use Rattle.memory.specs.declared.Growth.TheVariants as growth
 use Rattle.memory.specs.Memory.{Memory}
 use Rattle.memory.specs.View.{node_of, state_of, grown_of}
 use Rattle.memory.specs.Machine.{Machine}
@@ -93,7 +93,7 @@ module _ {t : Table} {r : Room} {m₀ : Memory} {c₀ : Counts} {i : ℕ} {ms : 
   unfolding node_of
   kept_line = ap (λ (n : Node freecell). n.line) g.kept
 
-  pub growing_end : length ms ≤ k → expand freecell r.capacity (node_of t m₀.nodes i) ms (state_of t r m₀ c₀) ≡ grown_of t r m (growth.Grown c)
+  pub growing_end : length ms ≤ k → expand freecell r.capacity (node_of t m₀.nodes i) ms (state_of t r m₀ c₀) ≡ grown_of t r m (Some c)
   unfolding expand
   growing_end l = g.left ∙ ap (λ (l : List Move). expand freecell r.capacity (node_of t m₀.nodes i) l (state_of t r m c)) (drop_of_length-le ms l)
 
@@ -108,7 +108,7 @@ module _ {t : Table} {r : Room} {m₀ : Memory} {c₀ : Counts} {i : ℕ} {ms : 
         ∙ ap (λ (x : Grown freecell). then_grow freecell x (expand freecell r.capacity (node_of t m₀.nodes i) (drop (k + 1) ms)))
         (ap (λ (n : Node freecell). bear freecell r.capacity n move (state_of t r m c)) (sym g.kept) ∙ e)
 
-    pub growing_turn : {new : Memory} {c' : Counts} → bear freecell r.capacity (node_of t m.nodes i) move (state_of t r m c) ≡ grown_of t r new (growth.Grown c')
+    pub growing_turn : {new : Memory} {c' : Counts} → bear freecell r.capacity (node_of t m.nodes i) move (state_of t r m c) ≡ grown_of t r new (Some c')
         → Machine t r new c' → node_of t new.nodes i ≡ node_of t m.nodes i → Growing t r m₀ c₀ i ms new c' (k + 1)
     unfolding state_of
     growing_turn {new} {c'} e h n =

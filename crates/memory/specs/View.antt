@@ -1,5 +1,5 @@
 -- The state of a search as its memory shows it: a function from the memory to the state of the definition.
-use Rattle.std.specs.Prelude.{List, [], ◌∷◌, ℕ, ◌+◌, ◌%◌, length}
+use Rattle.std.specs.Prelude.{List, [], ◌∷◌, ℕ, ◌+◌, ◌%◌, length, None, Some, Option}
 use Rattle.board.specs.Table.{Table}
 use Rattle.frontier.specs.Heap.{bag}
 use Rattle.frontier.specs.Packing.{packed}
@@ -12,8 +12,6 @@ use Rattle.search.specs.Solve.{Perhaps, none, some, Node, State, Grown, out_of_n
 use Rattle.costs.specs.CostIn.{KnownCost, unknown, known, cost_in}
 use Rattle.memory.specs.declared.Room.{Room}
 use Rattle.memory.specs.declared.Counts.{Counts}
-use Rattle.memory.specs.declared.Growth.{Growth}
-use Rattle.memory.specs.declared.Growth.TheVariants as growth
 use Rattle.memory.specs.declared.Advance.{Advance}
 use Rattle.memory.specs.declared.Advance.TheVariants as advance
 use Rattle.memory.specs.declared.Ended.{Ended}
@@ -56,9 +54,9 @@ module _ (t : Table) where
 
   -- ---- how steps end
 
-  abbrev pub grown_of : Room → Memory → Growth → Grown freecell
-  grown_of r m growth.OutOfNodes = out_of_nodes
-  grown_of r m (growth.Grown c) = grown (state_of r m c)
+  abbrev pub grown_of : Room → Memory → Option Counts → Grown freecell
+  grown_of r m None = out_of_nodes
+  grown_of r m (Some c) = grown (state_of r m c)
 
   abbrev pub turn_of : Room → Memory → Advance → Turn freecell
   turn_of r m (advance.Again c) = again (state_of r m c)

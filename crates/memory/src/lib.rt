@@ -18,13 +18,6 @@ pub struct Room {
     pub entries: usize,
 }
 
-// A node was expanded, or there was no room for a child.
-#[derive(Clone, Copy)]
-pub enum Growth {
-    OutOfNodes,
-    Grown(Counts),
-}
-
 // A node was taken: the search goes on, or it is won by that node, or there was no room.
 #[derive(Clone, Copy)]
 pub enum Advance {

@@ -2,9 +2,8 @@
 use mathlib.Core.Path.{◌≡◌, ap}
 use mathlib.Core.Bool.{true, false, ◌&&◌}
 use mathlib.Core.List.{List}
-use Prim.Native.Nat.{ℕ, ◌<◌, ◌≤◌}
-use native.Mathlib.Omega.{arith}
-use borrow.Author.Tests.{eq-eqb, ne_eqb, le-ltb, ltb-true, leb-true}
+use Prim.Native.Nat.{ℕ, ◌≤◌}
+use borrow.Author.Tests.{eq-eqb, ne_eqb, le-ltb, leb-true}
 use lib.Dec.{eqb, leb, ltb}
 use lib.ListN.{length, get_or}
 use Rattle.base.specs.Answer.{given, refused}
@@ -66,11 +65,6 @@ place_number (column i) = i
 place_number (cell i) = i
 place_number (home s) = s
 
-pub place_byte : (p : Place) → is_place p ≡ true → place_number p < 256
-place_byte (column i) e = let h = ltb-true i 8 e in omega arith
-place_byte (cell i) e = let h = ltb-true i 4 e in omega arith
-place_byte (home s) e = let h = ltb-true s 4 e in omega arith
-
 module _ (m : Move) (e : sayable m ≡ true) where
   pub said_from : is_place (from m) ≡ true
   unfolding sayable
@@ -89,22 +83,3 @@ module _ (m : Move) (e : sayable m ≡ true) where
   pub said_value : is_value (card m).value ≡ true
   unfolding sayable
   said_value = second (leb 1 (count m) && leb (count m) 255) (is_value (card m).value) (second (is_place (to m)) _ (second (is_place (from m)) _ e))
-
-pub record Said (m : Move) : Type 0 where
-  pub from_byte : place_number (from m) < 256
-  pub to_byte : place_number (to m) < 256
-  pub count_byte : count m < 256
-  pub value : is_value (card m).value ≡ true
-
-pub said_parts : (m : Move) → sayable m ≡ true → Said m
-unfolding sayable
-said_parts m e =
-    let rest = second (is_place (from m)) _ e in
-    let last = second (is_place (to m)) _ rest in
-    let counts = first (leb 1 (count m) && leb (count m) 255) (is_value (card m).value) last in
-    record {
-      from_byte = place_byte (from m) (first (is_place (from m)) _ e);
-      to_byte = place_byte (to m) (first (is_place (to m)) _ rest);
-      count_byte = let h = leb-true (count m) 255 (second (leb 1 (count m)) (leb (count m) 255) counts) in omega arith;
-      value = second (leb 1 (count m) && leb (count m) 255) (is_value (card m).value) last;
-    }

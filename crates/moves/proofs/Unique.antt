@@ -1,20 +1,9 @@
 -- `decode` allows one result only (`encode` promises `r ≡ record_of m`: card's `once`).
-use mathlib.Core.Path.{◌≡◌, refl}
-use Rattle.base.specs.Answer.{Answer, given, refused}
-use Rattle.base.proofs.Unique.{told_once}
-use Rattle.moves.specs.Record.{move_told}
+use Rattle.std.specs.Prelude.{Option}
+use mathlib.Core.Path.{◌≡◌}
+use Rattle.base.specs.Answer.{Answer, given_or}
+use Rattle.base.proofs.Unique.{given_once}
 use Rattle.moves.specs.declared.Move.{Move}
-use Rattle.moves.specs.declared.Decoded.{Decoded}
-use Rattle.moves.specs.declared.Decoded.TheVariants.{Is, Impossible}
 
-back : Answer Move → Decoded
-back (given m) = Is m
-back (refused n) = Impossible
-
-law : (r : Decoded) → back (move_told r) ≡ r
-unfolding back
-law (Is m) = refl
-law Impossible = refl
-
-pub decode_once : {a : Answer Move} {r s : Decoded} → move_told r ≡ a → move_told s ≡ a → r ≡ s
-decode_once = told_once move_told back law
+pub decode_once : {a : Answer Move} {r s : Option Move} → given_or 30 r ≡ a → given_or 30 s ≡ a → r ≡ s
+decode_once = given_once 30

@@ -1,13 +1,11 @@
 -- Laws of the lent room: records written one after the other.
 use mathlib.Core.Path.{◌≡◌, refl, sym, ap, ap₂, ◌∙◌, subst}
-use mathlib.Core.List.{List, [], ◌∷◌, ◌++◌, append_assoc}
-use Prim.Native.Nat.{ℕ, ◌+◌, ◌*◌, ◌≤◌}
-use native.Mathlib.Numerals.{add-one, add-two, add-three, add-four}
+use mathlib.Core.List.{List, [], ◌∷◌, ◌++◌, append_assoc, append-nil}
+use Prim.Native.Nat.{ℕ, ◌+◌, ◌-◌, ◌*◌, ◌≤◌}
 use native.Mathlib.Omega.{arith}
-use lib.ListN.{length, get_or, set, take, drop, length-append, length-drop, take-append-drop}
-use lib.Seq.{length-take-le, take_at, drop-append-add, drop-drop, sets-eq}
-use Rattle.card.specs.Suit.{suit_number}
-use Rattle.card.specs.Card.{code_of}
+use lib.ListN.{length, take, drop, length-append, length-drop, take-append-drop}
+use borrow.Rule.Slice.PartMut.{put_mid}
+use lib.Seq.{length-take-le, take_at, drop-append-add, drop-drop}
 use Rattle.moves.specs.Record.{record_of}
 use Rattle.moves.specs.declared.Move.{Move}
 use Rattle.moves.specs.declared.Move.TheVariants.{TableauToTableau, TableauToFoundation, TableauToFreeCell, FreeCellToTableau, FreeCellToFoundation, FoundationToTableau}
@@ -85,31 +83,16 @@ module _ (old : List ℕ) (n : ℕ) where
           (sym (append_assoc (bytes_of ms) (bytes_of ns) (drop ((n + length (ms ++ ns)) * 5) old))
           ∙ ap (λ (l : List ℕ). l ++ drop ((n + length (ms ++ ns)) * 5) old) (sym (bytes_join ms ns)))
 
--- ---- one record, byte by byte
+-- ---- one record
 
-abbrev pub stored : List ℕ → ℕ → List ℕ → List ℕ
-stored old at r =
-    set (set (set (set (set old at (get_or r 0 0)) (at + 1) (get_or r 1 0)) (at + 2) (get_or r 2 0)) (at + 3) (get_or r 3 0)) (at + 4) (get_or r 4 0)
-
-module _ (old : List ℕ) (n : ℕ) (room : (n + 1) * 5 ≤ length old) where
-  five : (a b c d e : ℕ) → stored old (n * 5) (a ∷ b ∷ c ∷ d ∷ e ∷ []) ≡ take (n * 5) old ++ ((a ∷ b ∷ c ∷ d ∷ e ∷ []) ++ drop ((n + 1) * 5) old)
-  five a b c d e =
-      rw (add-one, add-two, add-three, add-four)
-      (sets-eq (a ∷ b ∷ c ∷ d ∷ e ∷ []) old (n * 5) (omega arith)
-      ∙ append_assoc (take (n * 5) old) (a ∷ b ∷ c ∷ d ∷ e ∷ []) (drop (n * 5 + 5) old)
-      ∙ ap (λ (k : ℕ). take (n * 5) old ++ ((a ∷ b ∷ c ∷ d ∷ e ∷ []) ++ drop k old)) (let q : n * 5 + 5 ≡ (n + 1) * 5 = omega arith in q))
-
-  one_record : (m : Move) → stored old (n * 5) (record_of m) ≡ written old n (m ∷ [])
-  unfolding record_of written bytes_of
-  one_record (TableauToTableau s d k c) = five 1 s d k (code_of c)
-  one_record (TableauToFoundation s c) = five 2 s (suit_number c.suit) 1 (code_of c)
-  one_record (TableauToFreeCell s i c) = five 3 s i 1 (code_of c)
-  one_record (FreeCellToTableau i d c) = five 4 i d 1 (code_of c)
-  one_record (FreeCellToFoundation i c) = five 5 i (suit_number c.suit) 1 (code_of c)
-  one_record (FoundationToTableau s d c) = five 6 (suit_number s) d 1 (code_of c)
-
-  pub adds_one : {r : List ℕ} {m : Move} → r ≡ record_of m → Adds old (stored old (n * 5) r) n (n + 1) (m ∷ [])
-  adds_one {r} {m} e = record { room = ap (stored old (n * 5)) e ∙ one_record m; many = refl }
+pub adds_one : (old : List ℕ) (n : ℕ) {r : List ℕ} {m : Move} → r ≡ record_of m → Adds old (put_mid (n * 5) (n * 5 + 5 - n * 5) old r) n (n + 1) (m ∷ [])
+unfolding written bytes_of
+adds_one old n {r} {m} e =
+    record {
+      room = ap₂ (λ (x y : List ℕ). take (n * 5) old ++ (x ++ y)) (e ∙ sym (append-nil (record_of m)))
+          (drop-drop (n * 5 + 5 - n * 5) (n * 5) old ∙ ap (λ (k : ℕ). drop k old) (let q : n * 5 + (n * 5 + 5 - n * 5) ≡ (n + 1) * 5 = omega arith in q));
+      many = refl;
+    }
 
 -- ---- adding
 

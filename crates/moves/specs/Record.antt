@@ -1,13 +1,11 @@
 -- The five-byte record of a move: kind, from, to, count, code of the deepest moved card.
-use Rattle.std.specs.Prelude.{Bool, true, cond, ◌&&◌, List, [], ◌∷◌, ℕ, ◌%◌, eqb, leb, ltb, length, get_or}
-use Rattle.base.specs.Answer.{Answer, given, refused, unless}
+use Rattle.std.specs.Prelude.{Bool, true, cond, ◌&&◌, List, [], ◌∷◌, ℕ, ◌%◌, eqb, leb, ltb, length, get_or, None, Some, Option}
+use Rattle.base.specs.Answer.{Answer, given, unless}
 use Rattle.card.specs.Suit.{suit_number, suit_at}
 use Rattle.card.specs.Card.{is_card, code_of, card_of}
 use Rattle.moves.specs.Move.{sayable}
 use Rattle.moves.specs.declared.Move.{Move}
 use Rattle.moves.specs.declared.Move.TheVariants.{TableauToTableau, TableauToFoundation, TableauToFreeCell, FreeCellToTableau, FreeCellToFoundation, FoundationToTableau}
-use Rattle.moves.specs.declared.Decoded.{Decoded}
-use Rattle.moves.specs.declared.Decoded.TheVariants.{Is, Impossible}
 
 -- from: a column for kinds 1 to 3, a cell for 4 and 5, a suit for 6; there are no other kinds
 unfoldable pub source_room : ℕ → ℕ
@@ -45,14 +43,10 @@ move_of r = move_said (get_or r 0 0) (get_or r 1 0) (get_or r 2 0) (get_or r 3 0
 unfoldable pub move_asked : List ℕ → Answer Move
 move_asked r = unless (possible r) 30 (given (move_of r))
 
-abbrev pub move_told : Decoded → Answer Move
-move_told (Is m) = given m
-move_told Impossible = refused 30
-
 -- a move that is told can be said
-abbrev pub sayable_told : Decoded → Bool
-sayable_told (Is m) = sayable m
-sayable_told Impossible = true
+abbrev pub sayable_told : Option Move → Bool
+sayable_told (Some m) = sayable m
+sayable_told None = true
 
 -- the record of a move
 unfoldable pub record_of : Move → List ℕ

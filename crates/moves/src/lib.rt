@@ -2,11 +2,12 @@
 #![tactic(auto)]
 
 ghost use Rattle.std.specs.Prelude.{◌≡◌, true, ◌∷◌, [], ◌+◌, ◌*◌, ◌<◌, ◌≤◌, length};
+ghost use Rattle.base.specs.Answer.{given_or};
 ghost use Rattle.card.specs.Card.{is_card};
 ghost use Rattle.card.specs.Suit.{suit_number};
 ghost use Rattle.moves.specs.Move.{from, to, card, sayable};
 ghost use Rattle.moves.specs.declared.Place.TheVariants.{Home as home};
-ghost use Rattle.moves.specs.Record.{source_room, target_allows, count_allows, move_said, move_asked, move_told, sayable_told, record_of};
+ghost use Rattle.moves.specs.Record.{source_room, target_allows, count_allows, move_said, move_asked, sayable_told, record_of};
 ghost use Rattle.moves.specs.Written.{Adds};
 
 use card::{Card, Suit};
@@ -58,22 +59,16 @@ pub enum Place {
     Home(usize),
 }
 
-#[derive(Clone, Copy)]
-pub enum Decoded {
-    Is(Move),
-    Impossible,
-}
-
 // Where a move takes from.
 pub fn source_of(m: Move) -> Place
     ensures { result ≡ from m }
 {
     match m {
-        Move::TableauToTableau { source, .. } => Place::Column(source),
-        Move::TableauToFoundation { source, .. } => Place::Column(source),
-        Move::TableauToFreeCell { source, .. } => Place::Column(source),
-        Move::FreeCellToTableau { cell_index, .. } => Place::Cell(cell_index),
-        Move::FreeCellToFoundation { cell_index, .. } => Place::Cell(cell_index),
+        Move::TableauToTableau { source, .. }
+        | Move::TableauToFoundation { source, .. }
+        | Move::TableauToFreeCell { source, .. } => Place::Column(source),
+        Move::FreeCellToTableau { cell_index, .. }
+        | Move::FreeCellToFoundation { cell_index, .. } => Place::Cell(cell_index),
         Move::FoundationToTableau { suit, .. } => home_of(suit),
     }
 }
@@ -82,15 +77,7 @@ pub fn source_of(m: Move) -> Place
 fn home_of(suit: Suit) -> Place
     ensures { result ≡ home (suit_number suit) }
 {
-    Place::Home(base::wide(suit.number()))
-}
-
-// The foundation of a card.
-fn own_home(card: Card) -> Place
-    ensures { result ≡ home (suit_number card.suit) }
-{
-    let suit = card.suit;
-    home_of(suit)
+    Place::Home(usize::from(suit.number()))
 }
 
 // Where it goes to.
@@ -98,12 +85,13 @@ pub fn target_of(m: Move) -> Place
     ensures { result ≡ to m }
 {
     match m {
-        Move::TableauToTableau { destination, .. } => Place::Column(destination),
-        Move::TableauToFoundation { card, .. } => own_home(card),
+        Move::TableauToTableau { destination, .. }
+        | Move::FreeCellToTableau { destination, .. }
+        | Move::FoundationToTableau { destination, .. } => Place::Column(destination),
+        Move::TableauToFoundation { card, .. } | Move::FreeCellToFoundation { card, .. } => {
+            home_of(card.suit)
+        }
         Move::TableauToFreeCell { cell_index, .. } => Place::Cell(cell_index),
-        Move::FreeCellToTableau { destination, .. } => Place::Column(destination),
-        Move::FreeCellToFoundation { card, .. } => own_home(card),
-        Move::FoundationToTableau { destination, .. } => Place::Column(destination),
     }
 }
 
@@ -112,111 +100,94 @@ pub fn deepest_of(m: Move) -> Card
     ensures { result ≡ card m }
 {
     match m {
-        Move::TableauToTableau { card, .. } => card,
-        Move::TableauToFoundation { card, .. } => card,
-        Move::TableauToFreeCell { card, .. } => card,
-        Move::FreeCellToTableau { card, .. } => card,
-        Move::FreeCellToFoundation { card, .. } => card,
-        Move::FoundationToTableau { card, .. } => card,
+        Move::TableauToTableau { card, .. }
+        | Move::TableauToFoundation { card, .. }
+        | Move::TableauToFreeCell { card, .. }
+        | Move::FreeCellToTableau { card, .. }
+        | Move::FreeCellToFoundation { card, .. }
+        | Move::FoundationToTableau { card, .. } => card,
     }
 }
 
 // How many places there are to move from.
+#[tactic(auto, unfolding(crate::specs::Record::source_room))]
 fn source_room(kind: u8) -> u8
     ensures { result ≡ source_room kind }
 {
-    if kind == 0 {
-        return 0;
+    match kind {
+        1..=3 => 8,
+        4..=6 => 4,
+        _ => 0,
     }
-    if kind <= 3 {
-        return 8;
-    }
-    if kind <= 6 {
-        return 4;
-    }
-    0
 }
 
+#[tactic(auto, unfolding(crate::specs::Record::target_allows))]
 fn target_allows(kind: u8, to: u8, code: u8) -> bool
     ensures { result ≡ target_allows kind to code }
 {
-    let suit = code % 16;
-    if kind == 2 {
-        return to == suit;
+    match kind {
+        2 | 5 => to == code % 16,
+        3 => to < 4,
+        _ => to < 8,
     }
-    if kind == 5 {
-        return to == suit;
-    }
-    if kind == 3 {
-        return to < 4;
-    }
-    to < 8
 }
 
+#[tactic(auto, unfolding(crate::specs::Record::count_allows))]
 fn count_allows(kind: u8, count: u8) -> bool
     ensures { result ≡ count_allows kind count }
 {
-    if kind == 1 {
-        return 1 <= count;
+    match kind {
+        1 => 1 <= count,
+        _ => count == 1,
     }
-    count == 1
 }
 
 // The move of five numbers that are known to be possible.
+#[tactic(auto, unfolding(crate::specs::Record::move_said))]
 fn move_said(kind: u8, from: u8, to: u8, count: u8, code: u8) -> Move
     requires { is_card code ≡ true }
     ensures { result ≡ move_said kind from to count code }
 {
     let card = card::card_of(code);
-    let source = base::wide(from);
-    let destination = base::wide(to);
-    if kind == 1 {
-        let count = base::wide(count);
-        return Move::TableauToTableau {
+    let source = usize::from(from);
+    let destination = usize::from(to);
+    match kind {
+        1 => Move::TableauToTableau {
             source,
             destination,
-            count,
+            count: usize::from(count),
             card,
-        };
-    }
-    if kind == 2 {
-        return Move::TableauToFoundation { source, card };
-    }
-    if kind == 3 {
-        return Move::TableauToFreeCell {
+        },
+        2 => Move::TableauToFoundation { source, card },
+        3 => Move::TableauToFreeCell {
             source,
             cell_index: destination,
             card,
-        };
-    }
-    if kind == 4 {
-        return Move::FreeCellToTableau {
+        },
+        4 => Move::FreeCellToTableau {
             cell_index: source,
             destination,
             card,
-        };
-    }
-    if kind == 5 {
-        return Move::FreeCellToFoundation {
+        },
+        5 => Move::FreeCellToFoundation {
             cell_index: source,
             card,
-        };
-    }
-    let suit = card::suit_at(from);
-    Move::FoundationToTableau {
-        suit,
-        destination,
-        card,
+        },
+        _ => Move::FoundationToTableau {
+            suit: card::suit_at(from),
+            destination,
+            card,
+        },
     }
 }
 
 // The move that a record says, or that it is impossible (30).
-pub fn decode(bytes: &[u8]) -> Decoded
-    ensures result_value { move_told result ≡ move_asked bytes.now }
+pub fn decode(bytes: &[u8]) -> Option<Move>
+    ensures result_value { given_or 30 result ≡ move_asked bytes.now }
     ensures result_value_2 { sayable_told result ≡ true }
 {
     if bytes.len() != 5 {
-        return Decoded::Impossible;
+        return None;
     }
     let kind = bytes[0];
     let from = bytes[1];
@@ -224,18 +195,18 @@ pub fn decode(bytes: &[u8]) -> Decoded
     let count = bytes[3];
     let code = bytes[4];
     if !card::is_card(code) {
-        return Decoded::Impossible;
+        return None;
     }
     if source_room(kind) <= from {
-        return Decoded::Impossible;
+        return None;
     }
     if !target_allows(kind, to, code) {
-        return Decoded::Impossible;
+        return None;
     }
     if !count_allows(kind, count) {
-        return Decoded::Impossible;
+        return None;
     }
-    Decoded::Is(move_said(kind, from, to, count, code))
+    Some(move_said(kind, from, to, count, code))
 }
 
 // Five bytes, for places and a count that fit bytes.
@@ -249,45 +220,40 @@ fn five(kind: u8, from: usize, to: usize, count: usize, code: u8) -> [u8; 5]
 }
 
 // The record of a move that a record can say.
+#[tactic(auto, unfolding(crate::specs::Move::sayable, crate::specs::Record::record_of))]
 pub fn encode(m: Move) -> [u8; 5]
     requires { sayable m ≡ true }
     ensures { result ≡ record_of m }
 {
+    let code = card::code_of(deepest_of(m));
     match m {
         Move::TableauToTableau {
             source,
             destination,
             count,
-            card,
-        } => five(1, source, destination, count, card::code_of(card)),
+            ..
+        } => five(1, source, destination, count, code),
         Move::TableauToFoundation { source, card } => {
-            let suit = card.suit;
-            let to = base::wide(suit.number());
-            five(2, source, to, 1, card::code_of(card))
+            five(2, source, usize::from(card.suit.number()), 1, code)
         }
         Move::TableauToFreeCell {
             source,
             cell_index,
-            card,
-        } => five(3, source, cell_index, 1, card::code_of(card)),
+            ..
+        } => five(3, source, cell_index, 1, code),
         Move::FreeCellToTableau {
             cell_index,
             destination,
-            card,
-        } => five(4, cell_index, destination, 1, card::code_of(card)),
+            ..
+        } => five(4, cell_index, destination, 1, code),
         Move::FreeCellToFoundation { cell_index, card } => {
-            let suit = card.suit;
-            let to = base::wide(suit.number());
-            five(5, cell_index, to, 1, card::code_of(card))
+            five(5, cell_index, usize::from(card.suit.number()), 1, code)
         }
         Move::FoundationToTableau {
             suit,
             destination,
-            card,
-        } => {
-            let from = base::wide(suit.number());
-            five(6, from, destination, 1, card::code_of(card))
-        }
+            ..
+        } => five(6, usize::from(suit.number()), destination, 1, code),
     }
 }
 
@@ -297,12 +263,7 @@ pub fn write(out: &mut [u8], n: usize, m: Move) -> usize
     requires n_in_bounds { (n + 1) * 5 ≤ length out.old }
     ensures { Adds out.old out.new n result (m ∷ []) }
 {
-    let bytes = encode(m);
     let at = n * 5;
-    out[at] = bytes[0];
-    out[at + 1] = bytes[1];
-    out[at + 2] = bytes[2];
-    out[at + 3] = bytes[3];
-    out[at + 4] = bytes[4];
+    out[at..at + 5].copy_from_slice(&encode(m));
     n + 1
 }

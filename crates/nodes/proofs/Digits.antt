@@ -21,7 +21,7 @@ use Rattle.moves.specs.declared.Move.TheVariants.{TableauToTableau, TableauToFou
 use Rattle.moves.proofs.Records.{place_number, said_from, said_to, said_value}
 use Rattle.moves.proofs.Saying.{move_of_record, possible_said, said_of_record}
 use Rattle.candidates.specs.Inner.{Playable}
-use Rattle.nodes.specs.Step.{Small, step_of, step_word, record_in, move_in, cost_in, Puts, Added}
+use Rattle.nodes.specs.Step.{Small, step_of, step_word, record_in, move_in, cost_in}
 use Rattle.nodes.specs.Nodes.{Makes}
 
 -- ---- five small numbers and a cost
@@ -150,7 +150,3 @@ module _ (m : Move) {bytes : List ℕ} (e : bytes ≡ record_of m) {kind from to
   pub packed_step : (cost : ℕ) {word : ℕ} → word ≡ step_of (kind ∷ from ∷ to ∷ many ∷ code ∷ []) cost → word ≡ step_word m cost
   unfolding step_word
   packed_step cost q = q ∙ ap (λ (r : List ℕ). step_of r cost) same_numbers
-
-pub added_by : {old new : List ℕ} {i parent step cost slot : ℕ} {m : Move} → Puts old new i parent step slot → step ≡ step_word m cost
-    → Added old new i parent m cost slot
-added_by {old} {new} {i} {parent} {slot = slot} p e = record { puts = subst (λ (w : ℕ). Puts old new i parent w slot) e p }

@@ -1,7 +1,9 @@
 -- Up from a node to the root, step by step; and down again on a board.
-use mathlib.Core.Path.{◌≡◌, refl, sym, ap, ap₂, ◌∙◌, subst}
+use Rattle.base.specs.Answer.{given_or}
+use Rattle.std.specs.Prelude.{None, Some, Option}
+use mathlib.Core.Path.{◌≡◌, sym, ap, ap₂, ◌∙◌, subst}
 use mathlib.Core.List.{List, [], ◌∷◌, ◌++◌, append_assoc, append-nil}
-use Prim.Native.Nat.{ℕ, zero, suc, ◌+◌, ◌-◌, ◌*◌, ◌<◌, ◌≤◌}
+use Prim.Native.Nat.{ℕ, zero, suc, ◌+◌, ◌-◌, ◌<◌, ◌≤◌}
 use native.Mathlib.Numerals.{add-one}
 use native.Mathlib.Omega.{arith}
 use lib.ListN.{length, get_or, set, take, drop, length-append, length-set, drop_of_length-le}
@@ -12,10 +14,8 @@ use Rattle.board.specs.Inner.{Sound}
 use Rattle.board.specs.declared.Board.{Board}
 use Rattle.board.proofs.Records.{record_of_shown, shown_of_record}
 use Rattle.board.proofs.Fair.{shows_fair, fair_laid}
-use Rattle.moves.specs.Record.{move_asked, move_told}
+use Rattle.moves.specs.Record.{move_asked}
 use Rattle.moves.specs.declared.Move.{Move}
-use Rattle.moves.specs.declared.Decoded.{Decoded}
-use Rattle.moves.specs.declared.Decoded.TheVariants.{Is, Impossible}
 use Rattle.moves.specs.Play.{after_move}
 use Rattle.play.specs.Change.{Becomes, Ready}
 use Rattle.replay.proofs.Stepping.{became}
@@ -41,18 +41,8 @@ pub record Climbing (words : List ℕ) (n i : ℕ) (old now : List ℕ) (at deep
   pub room : now ≡ passed ++ drop deep old
   pub on : passed ++ steps_to words at ≡ steps_to words i
 
-pub climb_start : (words : List ℕ) (n i : ℕ) (old : List ℕ) → i < n → Climbing words n i old old i 0
-climb_start words n i old b = record { passed = []; born = b; deepness = refl; long = refl; room = refl; on = refl }
-
 module _ {words : List ℕ} {n i : ℕ} (l : Linked words n) {old now : List ℕ} {at deep : ℕ} (c : Climbing words n i old now at deep) where
-  -- the words of this node are there
-  pub climb_there : (at + 1) * 3 ≤ length words
-  climb_there = let f = l.fits in let b = c.born in omega arith
-
   module _ (room : length (steps_to words i) ≤ length old) (some : 0 < at) where
-    pub climb_less : {up : ℕ} → up ≡ parent_at words at → up < at
-    climb_less q = let o = l.older at some c.born in omega arith
-
     next : steps_to words at ≡ step_at words at ∷ steps_to words (parent_at words at)
     next = steps_next l at some c.born
 
@@ -100,22 +90,22 @@ module _ {b : Board} (s : Sound b) {step : ℕ} (k : Makes (shown b) step) where
   pub step_ready : Ready b (move_in step)
   step_ready = let p = makes_playable k in record { sound = s; said = p.said; allows = p.allows }
 
-  module _ {d : Decoded} (e : move_told d ≡ move_asked (record_in step)) where
-    pub step_is : {m : Move} → d ≡ Is m → m ≡ move_in step
+  module _ {d : Option Move} (e : given_or 30 d ≡ move_asked (record_in step)) where
+    pub step_is : {m : Move} → d ≡ Some m → m ≡ move_in step
     unfolding move_in
     step_is q = told_move (record_in step) k.told e q
 
-    pub step_never : d ≡ Impossible → ⊥
+    pub step_never : d ≡ None → ⊥
     step_never q = never_impossible (record_in step) k.told e q
 
-    pub step_goes : {m : Move} → d ≡ Is m → Ready b m
+    pub step_goes : {m : Move} → d ≡ Some m → Ready b m
     step_goes q = subst (Ready b) (sym (step_is q)) step_ready
 
-    pub step_plays : {m : Move} {many : ℕ} {r : Board} → d ≡ Is m → Bears b m many r → Sound r → Plays b step r
+    pub step_plays : {m : Move} {many : ℕ} {r : Board} → d ≡ Some m → Bears b m many r → Sound r → Plays b step r
     step_plays q h t = record { board = h.becomes ∙ ap (λ (m : Move). board_of (child_table (shown b) m)) (step_is q); sound = t }
 
     -- one move was spent on the step: the move alone makes it
-    pub step_alone : {m : Move} {before cost : ℕ} {next : Board} → d ≡ Is m → Costs (shown b) before step → cost ≡ cost_in step → cost - before ≡ 1
+    pub step_alone : {m : Move} {before cost : ℕ} {next : Board} → d ≡ Some m → Costs (shown b) before step → cost ≡ cost_in step → cost - before ≡ 1
         → Becomes next (after_move (shown b) m) → Plays b step next
     step_alone {m} q n c one e =
         let lone = child_alone (shown b) (move_in step) (let s = n.sum in omega arith) in
@@ -174,9 +164,6 @@ module _ {root : Board} {path : List ℕ} {deep : ℕ} (w : Leads root path deep
 
     inside : left - 1 < length (take deep path)
     inside = let b = below in let l = length-take-le deep path w.fits in omega arith
-
-    pub descend_there : left - 1 < length path
-    descend_there = let b = below in let f = w.fits in omega arith
 
     step_here : get_or (take deep path) (left - 1) 0 ≡ get_or path (left - 1) 0
     step_here = get_or-take deep path (left - 1) 0 below

@@ -8,7 +8,7 @@ ghost use Rattle.nodes.specs.Path.{Climbs, Plays, Leads};
 
 use crate::words;
 use board::{Board, CODES};
-use moves::{Decoded, MOST_MOVES};
+use moves::MOST_MOVES;
 
 // The steps from node i up to the root, the last one first; how many there are.
 pub fn climb(nodes: &[u32], n: usize, i: usize, path: &mut [u32]) -> usize
@@ -19,9 +19,9 @@ pub fn climb(nodes: &[u32], n: usize, i: usize, path: &mut [u32]) -> usize
 {
     let mut at = i;
     let mut deep = 0;
+    // how many steps there are is known only at the root
     while 0 < at {
-        let step = words::step_of(nodes, at);
-        path[deep] = step;
+        path[deep] = words::step_of(nodes, at);
         deep += 1;
         at = words::parent_of(nodes, at);
     }
@@ -43,7 +43,7 @@ fn play_step(
     requires costs { Costs (shown (laid cells.old foundation.old counts.old tableau.old)) before step }
     ensures { Plays (laid cells.old foundation.old counts.old tableau.old) step (laid cells.new foundation.new counts.new tableau.new) }
 {
-    let Decoded::Is(m) = words::move_in(step) else {
+    let Some(m) = words::move_in(step) else {
         return;
     };
     let cost = words::cost_in(step);
@@ -66,9 +66,7 @@ fn play_down(root: Board, path: &[u32], deep: usize) -> Board
     let mut counts = root.counts;
     let mut tableau = root.tableau;
     let mut cost = 0;
-    let mut left = deep;
-    while 0 < left {
-        left -= 1;
+    for left in (0..deep).rev() {
         let step = path[left];
         play_step(
             step,

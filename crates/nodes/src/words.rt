@@ -1,65 +1,58 @@
 // The three words of a node, read and written (after freecell/solver.rs, `FcSearchNode`, changed: NOTICE).
 ghost use Rattle.std.specs.Prelude.{◌≡◌, true, ◌∷◌, [], ◌+◌, ◌*◌, ◌<◌, ◌≤◌, length};
+ghost use Rattle.base.specs.Answer.{given_or};
 ghost use Rattle.moves.specs.Move.{sayable, count};
-ghost use Rattle.moves.specs.Record.{move_asked, move_told};
+ghost use Rattle.moves.specs.Record.{move_asked};
 ghost use Rattle.nodes.specs.Step.{Small, step_of, step_word, record_in, cost_in, parent_at, step_at, slot_at, cost_at, Puts, Added};
 
-use moves::{Decoded, Move};
-
-// A word as an index.
-fn wide(x: u32) -> usize
-    ensures { result ≡ x }
-{
-    x as usize
-}
+use moves::Move;
 
 // The number of a node's parent.
+#[tactic(auto, unfolding(crate::specs::Step::parent_at))]
 pub fn parent_of(nodes: &[u32], i: usize) -> usize
     requires { (i + 1) * 3 ≤ length nodes.now }
     ensures { result ≡ parent_at nodes.now i }
 {
-    let at = i * 3;
-    wide(nodes[at])
+    nodes[i * 3] as usize
 }
 
 // A node's step.
+#[tactic(auto, unfolding(crate::specs::Step::step_at))]
 pub fn step_of(nodes: &[u32], i: usize) -> u32
     requires { (i + 1) * 3 ≤ length nodes.now }
     ensures { result ≡ step_at nodes.now i }
 {
-    let first = i * 3;
-    let at = first + 1;
-    nodes[at]
+    nodes[i * 3 + 1]
 }
 
 // A node's entry in the table of costs.
+#[tactic(auto, unfolding(crate::specs::Step::slot_at))]
 pub fn slot_of(nodes: &[u32], i: usize) -> usize
     requires { (i + 1) * 3 ≤ length nodes.now }
     ensures { result ≡ slot_at nodes.now i }
 {
-    let first = i * 3;
-    let at = first + 2;
-    wide(nodes[at])
+    nodes[i * 3 + 2] as usize
 }
 
 // A step's cost.
+#[tactic(auto, unfolding(crate::specs::Step::cost_in))]
 pub fn cost_in(step: u32) -> usize
     ensures { result ≡ cost_in step }
 {
-    let cost = step % 256;
-    cost as usize
+    (step % 256) as usize
 }
 
 // A node's cost.
+#[tactic(auto, unfolding(crate::specs::Step::cost_at))]
 pub fn cost_of(nodes: &[u32], i: usize) -> usize
     requires { (i + 1) * 3 ≤ length nodes.now }
     ensures { result ≡ cost_at nodes.now i }
 {
-    let step = step_of(nodes, i);
-    cost_in(step)
+    cost_in(step_of(nodes, i))
 }
 
 // Six digits as one number.
+#[tactic(auto, unfolding(crate::specs::Step::step_of))]
 fn pack(kind: usize, from: usize, to: usize, count: usize, code: usize, cost: usize) -> u32
     requires small { Small (kind ∷ from ∷ to ∷ count ∷ code ∷ []) }
     requires cost_bound { cost < 256 }
@@ -81,15 +74,16 @@ fn step_word(m: Move, cost: usize) -> u32
     ensures { result ≡ step_word m cost }
 {
     let bytes = moves::encode(m);
-    let kind = base::wide(bytes[0]);
-    let from = base::wide(bytes[1]);
-    let to = base::wide(bytes[2]);
-    let count = base::wide(bytes[3]);
-    let code = base::wide(bytes[4]);
+    let kind = usize::from(bytes[0]);
+    let from = usize::from(bytes[1]);
+    let to = usize::from(bytes[2]);
+    let count = usize::from(bytes[3]);
+    let code = usize::from(bytes[4]);
     pack(kind, from, to, count, code, cost)
 }
 
 // The record of a step's move.
+#[tactic(auto, unfolding(crate::specs::Step::record_in))]
 fn record_in(word: u32) -> [u8; 5]
     ensures { result ≡ record_in word }
 {
@@ -102,11 +96,10 @@ fn record_in(word: u32) -> [u8; 5]
 }
 
 // A step's move.
-pub fn move_in(word: u32) -> Decoded
-    ensures { move_told result ≡ move_asked (record_in word) }
+pub fn move_in(word: u32) -> Option<Move>
+    ensures { given_or 30 result ≡ move_asked (record_in word) }
 {
-    let bytes = record_in(word);
-    moves::decode(&bytes)
+    moves::decode(&record_in(word))
 }
 
 // The three words of node i.
@@ -117,11 +110,8 @@ fn put(nodes: &mut [u32], i: usize, parent: usize, step: u32, slot: usize)
     ensures { Puts nodes.old nodes.new i parent step slot }
 {
     let at = i * 3;
-    let parent_word = parent as u32;
-    let slot_word = slot as u32;
-    nodes[at] = parent_word;
-    nodes[at + 1] = step;
-    nodes[at + 2] = slot_word;
+    let words = [parent as u32, step, slot as u32];
+    nodes[at..at + 3].copy_from_slice(&words);
 }
 
 // The root: node 0, with no parent and no cost.

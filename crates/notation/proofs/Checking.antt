@@ -13,15 +13,15 @@ use Rattle.notation.specs.declared.Due.{Due}
 use Rattle.notation.specs.declared.Due.TheVariants.{Source, OfColumn, OfCell, Pair, Digit, Whole}
 use Rattle.notation.specs.declared.Step.{Step}
 use Rattle.notation.specs.declared.Step.TheVariants.{On, Ends, Wrong}
-use Rattle.notation.specs.declared.Formed.TheVariants.{Moves, WrongAt}
+use Rattle.std.specs.Prelude.{Ok, Err}
 use Rattle.notation.proofs.Forming.{some_text}
 
 none_before : (r : Reading) → formed_by r ≡ formed_after 0 r
-none_before (jots js) = ap (λ (n : ℕ). Moves n) (let q : length js ≡ 0 + length js = omega arith in q)
+none_before (jots js) = ap (λ (n : ℕ). Ok n) (let q : length js ≡ 0 + length js = omega arith in q)
 none_before (wrong p) = refl
 
 one_before : (n : ℕ) (j : Jot) (r : Reading) → formed_after n (also j r) ≡ formed_after (n + 1) r
-one_before n j (jots js) = ap (λ (k : ℕ). Moves k) (let q : n + suc (length js) ≡ n + 1 + length js = omega arith in q)
+one_before n j (jots js) = ap (λ (k : ℕ). Ok k) (let q : n + suc (length js) ≡ n + 1 + length js = omega arith in q)
 one_before n j (wrong p) = refl
 
 begun_most : (d : Due) → begun d ≤ 1
@@ -38,7 +38,7 @@ pub record Checks (text : List ℕ) (due : Due) (moves at : ℕ) : Type 0 where
   pub few : moves + begun due ≤ at
   pub left : formed_by (line_in text) ≡ formed_after moves (read_from due at (drop at text))
 
-pub no_text : (text : List ℕ) → length text ≡ 0 → Moves 0 ≡ formed_by (line_in text)
+pub no_text : (text : List ℕ) → length text ≡ 0 → Ok 0 ≡ formed_by (line_in text)
 unfolding line_in
 no_text [] e = refl
 no_text (x ∷ text) e = absurd (let z : ⊥ = omega arith in z)
@@ -79,16 +79,16 @@ module _ {text : List ℕ} {due : Due} {moves at : ℕ} (c : Checks text due mov
         left = by h q ∙ one_before moves j (read_from Source (at + 1) (drop (at + 1) text));
       }
 
-  pub checks_stop : at < length text → step_from due (get_or text at 0) ≡ Wrong → formed_by (line_in text) ≡ WrongAt at
+  pub checks_stop : at < length text → step_from due (get_or text at 0) ≡ Wrong → formed_by (line_in text) ≡ Err (record { place = at })
   checks_stop h q = by h q
 
-  pub checks_end : length text ≤ at → formed_by (line_in text) ≡ formed_after moves (ending due at)
+  pub checks_end : length text ≤ at → formed_by (line_in text) ≡ formed_after moves (ending due (length text))
   unfolding read_from
   checks_end h =
       let u = c.upto in
       c.left
-      ∙ ap (λ (n : ℕ). formed_after moves (read_from due at (drop n text))) (let q : at ≡ length text = omega arith in q)
-      ∙ ap (λ (l : List ℕ). formed_after moves (read_from due at l)) (drop-length text)
+      ∙ ap (λ (n : ℕ). formed_after moves (read_from due n (drop n text))) (let q : at ≡ length text = omega arith in q)
+      ∙ ap (λ (l : List ℕ). formed_after moves (read_from due (length text) l)) (drop-length text)
 
 pub checks_same : {text : List ℕ} {due e : Due} {moves n at : ℕ} → due ≡ e → moves ≡ n → Checks text e n at → Checks text due moves at
 checks_same {text} {due} {e} {moves} {n} {at} p q c =

@@ -3,4 +3,3 @@ pub mod Signs
 pub mod Forming
 pub mod Stopping
 pub mod Checking
-pub mod Signing

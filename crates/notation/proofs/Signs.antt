@@ -37,14 +37,6 @@ or_right false b e = e
 or_left : (a b : Bool) → a ≡ true → (a || b) ≡ true
 or_left a b e = rw e
 
--- a digit is no sign below 0, and past 9 none below a
-pub digit_range : (x : ℕ) → is_digit x ≡ true → (48 ≤ x) × (57 < x → 97 ≤ x)
-digit_range x e = by_range (within 48 57 x) refl e
-  where
-    by_range : (a : Bool) → within 48 57 x ≡ a → (a || within 97 102 x) ≡ true → (48 ≤ x) × (57 < x → 97 ≤ x)
-    by_range true q f = let w = within_is 48 57 x q in (omega arith, λ h. omega arith)
-    by_range false q f = let w = within_is 97 102 x f in (omega arith, λ h. omega arith)
-
 pub digit_sign_lem : (n : ℕ) → n < 16 → is_digit (digit_sign n) ≡ true
 unfolding digit_sign
 digit_sign_lem n h = by_size (ltb n 10) refl

@@ -1,5 +1,5 @@
 -- The form of a line, read sign by sign: what is due next, and the place of the first wrong sign (the length if the text is cut short).
-use Rattle.std.specs.Prelude.{Bool, cond, ◌&&◌, ◌||◌, List, [], ◌∷◌, ℕ, suc, ◌-◌, eqb, leb, length}
+use Rattle.std.specs.Prelude.{Bool, cond, ◌&&◌, ◌||◌, List, [], ◌∷◌, ℕ, suc, ◌-◌, eqb, leb, length, Result, Ok, Err}
 use Rattle.notation.specs.Jot.{home_sign, count_sign, space}
 use Rattle.notation.specs.declared.Jot.{Jot}
 use Rattle.notation.specs.declared.Jot.TheVariants.{Between, Counted, ToCell, ToHome, FromCell, CellHome}
@@ -7,8 +7,7 @@ use Rattle.notation.specs.declared.Due.{Due}
 use Rattle.notation.specs.declared.Due.TheVariants.{Source, OfColumn, OfCell, Pair, Digit, Whole}
 use Rattle.notation.specs.declared.Step.{Step}
 use Rattle.notation.specs.declared.Step.TheVariants.{On, Ends, Wrong}
-use Rattle.notation.specs.declared.Formed.{Formed}
-use Rattle.notation.specs.declared.Formed.TheVariants as formed
+use Rattle.notation.specs.declared.WrongSign.{WrongSign}
 
 -- the signs, and what they say
 unfoldable pub within : ℕ → ℕ → ℕ → Bool
@@ -79,6 +78,6 @@ line_in [] = jots []
 line_in (x ∷ text) = read_from Source 0 (x ∷ text)
 
 -- how many moves, or which sign is wrong
-abbrev pub formed_by : Reading → Formed
-formed_by (jots js) = formed.Moves (length js)
-formed_by (wrong p) = formed.WrongAt p
+abbrev pub formed_by : Reading → Result ℕ WrongSign
+formed_by (jots js) = Ok (length js)
+formed_by (wrong p) = Err (record { place = p })

@@ -1,15 +1,14 @@
 -- What the inner functions say of a text while they read it.
-use Rattle.std.specs.Prelude.{ℕ, ◌+◌, length}
+use Rattle.std.specs.Prelude.{ℕ, ◌+◌, length, Result, Ok, Err}
 use Rattle.notation.specs.Form.{Reading, jots, wrong}
 use Rattle.notation.specs.declared.Due.{Due}
 use Rattle.notation.specs.declared.Due.TheVariants.{Source, OfColumn, OfCell, Pair, Digit, Whole}
-use Rattle.notation.specs.declared.Formed.{Formed}
-use Rattle.notation.specs.declared.Formed.TheVariants.{Moves, WrongAt}
+use Rattle.notation.specs.declared.WrongSign.{WrongSign}
 
 -- how many moves, n before those read from here, or which sign is wrong
-abbrev pub formed_after : ℕ → Reading → Formed
-formed_after n (jots js) = Moves (n + length js)
-formed_after n (wrong p) = WrongAt p
+abbrev pub formed_after : ℕ → Reading → Result ℕ WrongSign
+formed_after n (jots js) = Ok (n + length js)
+formed_after n (wrong p) = Err (record { place = p })
 
 -- a move is begun
 abbrev pub begun : Due → ℕ

@@ -1,135 +1,91 @@
 // The form of a line: what each sign says where something is due, and a whole text looked at once.
-ghost use Rattle.std.specs.Prelude.{◌≡◌, true, ◌+◌, ◌-◌, ◌≤◌};
-ghost use Rattle.notation.specs.Form.{within, is_digit, digit_said, step_from, ending, line_in, formed_by};
+#![tactic(auto, unfolding(crate::specs::Form::step_from, crate::specs::Form::within, crate::specs::Form::digit_said))]
+
+ghost use Rattle.std.specs.Prelude.{◌≡◌, ◌+◌, ◌≤◌};
+ghost use Rattle.notation.specs.Form.{step_from, ending, line_in, formed_by};
 ghost use Rattle.notation.specs.Inner.{formed_after, begun};
 ghost use Rattle.notation.specs.declared.Due.TheVariants.{Source, OfColumn, OfCell, Pair, Digit, Whole};
 
-use crate::{Due, Formed, Jot, Step};
-
-// A sign from `low` to `high`.
-fn is_within(low: u8, high: u8, sign: u8) -> bool
-    ensures { result ≡ within low high sign }
-{
-    if sign < low {
-        return false;
-    }
-    sign <= high
-}
-
-// The number that a sign says, counted from the sign of 0.
-fn number_said(zero: u8, high: u8, sign: u8) -> usize
-    requires { within zero high sign ≡ true }
-    ensures { result ≡ sign - zero }
-{
-    let number = sign - zero;
-    base::wide(number)
-}
+use crate::{Due, Jot, Step, WrongSign};
 
 // A move's first sign.
 fn at_source(sign: u8) -> Step
     ensures { result ≡ step_from Source sign }
 {
-    if is_within(b'1', b'8', sign) {
-        return Step::On(Due::OfColumn(number_said(b'1', b'8', sign)));
+    match sign {
+        b'1'..=b'8' => Step::On(Due::OfColumn(usize::from(sign - b'1'))),
+        b'a'..=b'd' => Step::On(Due::OfCell(usize::from(sign - b'a'))),
+        _ => Step::Wrong,
     }
-    if is_within(b'a', b'd', sign) {
-        return Step::On(Due::OfCell(number_said(b'a', b'd', sign)));
-    }
-    Step::Wrong
 }
 
 // The second sign of a column's move.
 fn at_column(i: usize, sign: u8) -> Step
     ensures { result ≡ step_from (OfColumn i) sign }
 {
-    if is_within(b'1', b'8', sign) {
-        return Step::On(Due::Pair(i, number_said(b'1', b'8', sign)));
+    match sign {
+        b'1'..=b'8' => Step::On(Due::Pair(i, usize::from(sign - b'1'))),
+        b'a'..=b'd' => Step::On(Due::Whole(Jot::ToCell {
+            source: i,
+            cell: usize::from(sign - b'a'),
+        })),
+        b'h' => Step::On(Due::Whole(Jot::ToHome { source: i })),
+        _ => Step::Wrong,
     }
-    if is_within(b'a', b'd', sign) {
-        let cell = number_said(b'a', b'd', sign);
-        return Step::On(Due::Whole(Jot::ToCell { source: i, cell }));
-    }
-    if sign == b'h' {
-        return Step::On(Due::Whole(Jot::ToHome { source: i }));
-    }
-    Step::Wrong
 }
 
 // The second sign of a cell's move.
 fn at_cell(cell: usize, sign: u8) -> Step
     ensures { result ≡ step_from (OfCell cell) sign }
 {
-    if is_within(b'1', b'8', sign) {
-        let destination = number_said(b'1', b'8', sign);
-        return Step::On(Due::Whole(Jot::FromCell { cell, destination }));
+    match sign {
+        b'1'..=b'8' => Step::On(Due::Whole(Jot::FromCell {
+            cell,
+            destination: usize::from(sign - b'1'),
+        })),
+        b'h' => Step::On(Due::Whole(Jot::CellHome { cell })),
+        _ => Step::Wrong,
     }
-    if sign == b'h' {
-        return Step::On(Due::Whole(Jot::CellHome { cell }));
-    }
-    Step::Wrong
 }
 
 // After two columns: a space, or `v`.
 fn at_pair(source: usize, destination: usize, sign: u8) -> Step
     ensures { result ≡ step_from (Pair source destination) sign }
 {
-    if sign == b' ' {
-        return Step::Ends(Jot::Between {
+    match sign {
+        b' ' => Step::Ends(Jot::Between {
             source,
             destination,
-        });
+        }),
+        b'v' => Step::On(Due::Digit(source, destination)),
+        _ => Step::Wrong,
     }
-    if sign == b'v' {
-        return Step::On(Due::Digit(source, destination));
-    }
-    Step::Wrong
 }
 
-// The number of a hexadecimal digit's sign.
-fn digit_said(sign: u8) -> usize
-    requires { is_digit sign ≡ true }
-    ensures { result ≡ digit_said sign }
-{
-    if sign <= b'9' {
-        let low = sign - b'0';
-        return base::wide(low);
-    }
-    let high = sign - 87;
-    base::wide(high)
-}
-
-fn is_digit(sign: u8) -> bool
-    ensures { result ≡ is_digit sign }
-{
-    if is_within(b'0', b'9', sign) {
-        return true;
-    }
-    is_within(b'a', b'f', sign)
-}
-
-// After `v`: a digit.
+// After `v`: a hexadecimal digit.
 fn at_digit(source: usize, destination: usize, sign: u8) -> Step
     ensures { result ≡ step_from (Digit source destination) sign }
 {
-    if is_digit(sign) {
-        let count = digit_said(sign);
-        return Step::On(Due::Whole(Jot::Counted {
-            source,
-            destination,
-            count,
-        }));
-    }
-    Step::Wrong
+    let count = match sign {
+        b'0'..=b'9' => sign - b'0',
+        b'a'..=b'f' => sign - b'a' + 10,
+        _ => return Step::Wrong,
+    };
+    Step::On(Due::Whole(Jot::Counted {
+        source,
+        destination,
+        count: usize::from(count),
+    }))
 }
 
 // After a whole move: a space.
 fn at_whole(jot: Jot, sign: u8) -> Step
     ensures { result ≡ step_from (Whole jot) sign }
 {
-    if sign == b' ' {
-        return Step::Ends(jot);
+    match sign {
+        b' ' => Step::Ends(jot),
+        _ => Step::Wrong,
     }
-    Step::Wrong
 }
 
 // What a sign does where something is due.
@@ -147,50 +103,36 @@ pub fn step_from(due: Due, sign: u8) -> Step
 }
 
 // The text ends where something is due, after so many moves.
-fn at_end(due: Due, moves: usize, at: usize) -> Formed
+fn at_end(due: Due, moves: usize, at: usize) -> Result<usize, WrongSign>
     requires { moves + begun due ≤ at }
     ensures { result ≡ formed_after moves (ending due at) }
 {
     match due {
-        Due::Source => Formed::WrongAt(at),
-        Due::OfColumn(_) => Formed::WrongAt(at),
-        Due::OfCell(_) => Formed::WrongAt(at),
-        Due::Pair(_, _) => {
-            let all = moves + 1;
-            Formed::Moves(all)
-        }
-        Due::Digit(_, _) => Formed::WrongAt(at),
-        Due::Whole(_) => {
-            let all = moves + 1;
-            Formed::Moves(all)
+        Due::Pair(..) | Due::Whole(_) => Ok(moves + 1),
+        Due::Source | Due::OfColumn(_) | Due::OfCell(_) | Due::Digit(..) => {
+            Err(WrongSign { place: at })
         }
     }
 }
 
 // How many moves are written in a text, or the place of its first wrong sign.
-pub fn check(text: &[u8]) -> Formed
+pub fn check(text: &[u8]) -> Result<usize, WrongSign>
     ensures { result ≡ formed_by (line_in text.now) }
 {
-    if text.len() == 0 {
-        return Formed::Moves(0);
+    if text.is_empty() {
+        return Ok(0);
     }
     let mut due = Due::Source;
     let mut moves = 0;
-    let mut at = 0;
-    while at < text.len() {
-        match step_from(due, text[at]) {
-            Step::On(then) => {
-                due = then;
-            }
+    for (place, &sign) in text.iter().enumerate() {
+        match step_from(due, sign) {
+            Step::On(then) => due = then,
             Step::Ends(_) => {
                 due = Due::Source;
                 moves += 1;
             }
-            Step::Wrong => {
-                return Formed::WrongAt(at);
-            }
+            Step::Wrong => return Err(WrongSign { place }),
         }
-        at += 1;
     }
-    at_end(due, moves, at)
+    at_end(due, moves, text.len())
 }

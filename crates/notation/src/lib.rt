@@ -44,7 +44,8 @@ pub enum Due {
     Whole(Jot),
 }
 
-// A sign leads on to what is due then, ends a move (the space), or is wrong.
+// A sign leads on to what is due then, ends a move (the space), or is wrong. (Three ways on, each with a name: an `Option`
+// or a `Result` would be no plainer.)
 #[derive(Clone, Copy)]
 pub enum Step {
     On(Due),
@@ -52,9 +53,8 @@ pub enum Step {
     Wrong,
 }
 
-// So many moves are written, or the sign at a place is the first wrong one.
+// The place of a text's first wrong sign; its length where it is cut short.
 #[derive(Clone, Copy)]
-pub enum Formed {
-    Moves(usize),
-    WrongAt(usize),
+pub struct WrongSign {
+    pub place: usize,
 }

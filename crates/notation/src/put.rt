@@ -1,4 +1,6 @@
 // A written move put into lent room: two signs, or four.
+#![tactic(auto, unfolding(crate::specs::Jot::digit_sign, crate::specs::Jot::jot_text))]
+
 ghost use Rattle.std.specs.Prelude.{◌≡◌, ◌∷◌, [], ◌+◌, ◌<◌, ◌≤◌, length};
 ghost use Rattle.base.specs.Put.{Puts};
 ghost use Rattle.notation.specs.Jot.{column_sign, cell_sign, digit_sign, jot_text, WellMade};
@@ -6,13 +8,12 @@ ghost use Rattle.notation.specs.Jot.{column_sign, cell_sign, digit_sign, jot_tex
 use crate::Jot;
 use base::put::put_bytes;
 
-// 1 to 8 for the columns.
+// 1 to 8 for the columns. (Columns and cells have a function each: a call says which sign is meant.)
 fn column_sign(i: usize) -> u8
     requires { i < 8 }
     ensures { result ≡ column_sign i }
 {
-    let n = i as u8;
-    49 + n
+    b'1' + i as u8
 }
 
 // a to d for the cells.
@@ -20,8 +21,7 @@ fn cell_sign(i: usize) -> u8
     requires { i < 4 }
     ensures { result ≡ cell_sign i }
 {
-    let n = i as u8;
-    97 + n
+    b'a' + i as u8
 }
 
 // 0 to 9, then a to f.
@@ -30,10 +30,7 @@ fn digit_sign(count: usize) -> u8
     ensures { result ≡ digit_sign count }
 {
     let n = count as u8;
-    if n < 10 {
-        return 48 + n;
-    }
-    87 + n
+    if n < 10 { b'0' + n } else { b'a' + (n - 10) }
 }
 
 // Two signs at a place.
@@ -41,8 +38,7 @@ fn put_pair(text: &mut [u8], at: usize, from: u8, to: u8) -> usize
     requires { at + 2 ≤ length text.old }
     ensures { Puts text.old text.new at result (from ∷ to ∷ []) }
 {
-    let signs = [from, to];
-    put_bytes(text, at, &signs)
+    put_bytes(text, at, &[from, to])
 }
 
 // A written move at a place.
@@ -60,15 +56,16 @@ pub fn put_jot(text: &mut [u8], at: usize, jot: Jot) -> usize
             source,
             destination,
             count,
-        } => {
-            let signs = [
+        } => put_bytes(
+            text,
+            at,
+            &[
                 column_sign(source),
                 column_sign(destination),
                 b'v',
                 digit_sign(count),
-            ];
-            put_bytes(text, at, &signs)
-        }
+            ],
+        ),
         Jot::ToCell { source, cell } => put_pair(text, at, column_sign(source), cell_sign(cell)),
         Jot::ToHome { source } => put_pair(text, at, column_sign(source), b'h'),
         Jot::FromCell { cell, destination } => {

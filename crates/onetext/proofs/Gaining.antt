@@ -1,5 +1,6 @@
 -- What the search gives `oneboard`: small numbers, and a list that holds the records of its moves.
-use mathlib.Core.Path.{◌≡◌, refl, ap, ap₂, ◌∙◌}
+use Rattle.std.specs.Prelude.{Result, Ok, Err}
+use mathlib.Core.Path.{◌≡◌, refl, sym, ap, ap₂, ◌∙◌, subst}
 use mathlib.Core.Bool.{false}
 use mathlib.Core.List.{List, [], ◌∷◌, ◌++◌, append_assoc}
 use Prim.Native.Nat.{ℕ, ◌+◌, ◌*◌, ◌≤◌}
@@ -9,6 +10,7 @@ use lib.Seq.{take_at, drop_at}
 use Rattle.board.specs.Verdict.{Verdict, fine}
 use Rattle.board.specs.Record.{shown, examined}
 use Rattle.board.specs.declared.Board.{Board}
+use Rattle.board.specs.declared.Refusal.{Refusal}
 use Rattle.intake.proofs.Accepted.{Fine, fine_sound}
 use Rattle.moves.specs.Record.{record_of}
 use Rattle.moves.specs.declared.Move.{Move}
@@ -20,8 +22,10 @@ use Rattle.search.specs.Freecell.{freecell, judge}
 use Rattle.search.specs.Solve.{Perhaps, none, some, Answer}
 use Rattle.search.proofs.Judge.{T1, T4_pops}
 use Rattle.solver.specs.Capacity.{capacity_of}
-use Rattle.finish.specs.Said.{said_number, moves_of}
+use Rattle.finish.specs.Said.{said_number, moves_of, told}
 use Rattle.solver.specs.Searched.{Outcome, outcome, accepted, answered_with, searched_by, searched}
+use Rattle.solver.specs.Told.{IsAnswer}
+use Rattle.solver.proofs.Calls.{refusal_says, judge_answer}
 use Rattle.finish.specs.Inner.{Gives}
 use Rattle.finish.specs.declared.Judged.{Judged}
 use Rattle.onetext.specs.Text.{line, move_lines, answer_text}
@@ -48,17 +52,25 @@ module _ {b : Board} (f : Fine b) {nodes heap keys costs list : List ℕ} (s : S
       (accepts b (capacity_of (length nodes) (length heap) (length keys) (length costs)) (length list) f.verdict here s.list)
       ∙ ap (λ (k : ℕ). answered_with nodes heap keys costs list (judge (shown b) 100 k false)) here
 
-  pub gained : (j : Judged) {n h k c l : List ℕ} → outcome j n h k c l ≡ searched nodes heap keys costs list b 100 false
-      → Gives (judge (shown b) 100 64 false) list l j
-  unfolding answered_with
-  gained j e =
-      let q = e ∙ searched_is in
-      record {
-        number = ap (λ (o : Outcome). o.number) q;
-        pops = ap (λ (o : Outcome). o.pops) q;
-        moves = ap (λ (o : Outcome). o.moves) q;
-        list = ap (λ (o : Outcome). o.list) q;
-      }
+  module _ (r : Result Judged Refusal) {n h k c l : List ℕ} (e : outcome (told r) n h k c l ≡ searched nodes heap keys costs list b 100 false) where
+    -- no answer has a refusal's number
+    pub never_refused : {why : Refusal} → r ≡ Err why → ⊥
+    unfolding answered_with
+    never_refused {why} q =
+        refusal_says why
+        (subst IsAnswer (sym (ap (λ (o : Outcome). o.number) (e ∙ searched_is)) ∙ ap (λ (x : Result Judged Refusal). (told x).number) q)
+        (judge_answer (shown b) 100 64 false))
+
+    pub gained : {j : Judged} → r ≡ Ok j → Gives (judge (shown b) 100 64 false) list l j
+    unfolding answered_with
+    gained p =
+        let q = ap (λ (x : Result Judged Refusal). outcome (told x) n h k c l) (sym p) ∙ e ∙ searched_is in
+        record {
+          number = ap (λ (o : Outcome). o.number) q;
+          pops = ap (λ (o : Outcome). o.pops) q;
+          moves = ap (λ (o : Outcome). o.moves) q;
+          list = ap (λ (o : Outcome). o.list) q;
+        }
 
 -- ---- small numbers
 

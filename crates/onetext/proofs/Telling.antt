@@ -1,4 +1,5 @@
 -- The whole text: the token and the answer of a board, a refusal's number, or 10.
+use Rattle.std.specs.Prelude.{Err, Ok, Result}
 use mathlib.Core.Path.{◌≡◌, sym, ap, ◌∙◌, subst}
 use mathlib.Core.Bool.{Bool, true, false, cond}
 use mathlib.Core.List.{List, [], ◌∷◌, ◌++◌}
@@ -9,14 +10,10 @@ use lib.Dec.{leb}
 use lib.ListN.{length, drop, length-append}
 use Rattle.base.specs.Answer.{Answer, given}
 use Rattle.board.specs.Record.{shown}
-use Rattle.board.specs.Refusal.{number_of}
+use Rattle.board.specs.Refusal.{number_of, answered}
 use Rattle.board.specs.declared.Board.{Board}
 use Rattle.board.specs.declared.Refusal.{Refusal}
-use Rattle.board.specs.declared.Examined.{Examined}
-use Rattle.board.specs.declared.Examined.TheVariants.{WellFormed, Refused}
 use Rattle.intake.specs.Image.{image_read}
-use Rattle.intake.specs.Handed.{Hands, board_told}
-use Rattle.intake.specs.declared.Reading.{Reading}
 use Rattle.intake.proofs.Accepted.{Fine, read_fine, fine_sound}
 use Rattle.base.specs.Put.{Puts, over}
 use Rattle.features.specs.Features.{features_of, Bounded}
@@ -84,22 +81,23 @@ pub text_long : (image : List ℕ) → 1024 < length image → line (10 ∷ []) 
 unfolding text
 text_long image h = ap (λ (b : Bool). cond b (read_text (image_read image)) (line (10 ∷ []))) (sym (lt-leb (length image) 1024 h))
 
-module _ (image : List ℕ) (within : length image ≤ 1024) {r : Reading} (h : Hands (image_read image) r) where
+module _ (image : List ℕ) (within : length image ≤ 1024) where
   text_read : {a : Answer Board} → image_read image ≡ a → read_text a ≡ text image
   unfolding text
   text_read e =
       ap read_text (sym e) ∙ ap (λ (b : Bool). cond b (read_text (image_read image)) (line (10 ∷ []))) (sym (le-leb (length image) 1024 within))
 
-  pub text_refused : {why : Refusal} → r.said ≡ Refused why → line (number_of why ∷ []) ≡ text image
-  text_refused q = text_read (sym h.told ∙ ap (λ (x : Examined). board_told x r.board) q)
+module _ (image : List ℕ) (within : length image ≤ 1024) {r : Result Board Refusal} (h : answered r ≡ image_read image) where
+  pub text_refused : {why : Refusal} → r ≡ Err why → line (number_of why ∷ []) ≡ text image
+  text_refused q = text_read image within (sym h ∙ ap answered q)
 
-  given_board : r.said ≡ WellFormed → image_read image ≡ given r.board
-  given_board q = sym h.told ∙ ap (λ (x : Examined). board_told x r.board) q
+  given_board : {b : Board} → r ≡ Ok b → image_read image ≡ given b
+  given_board q = sym h ∙ ap answered q
 
-  pub text_given : r.said ≡ WellFormed → hand_text (shown r.board) ≡ text image
-  text_given q = text_read (given_board q)
+  pub text_given : {b : Board} → r ≡ Ok b → hand_text (shown b) ≡ text image
+  text_given q = text_read image within (given_board q)
 
-  pub read_board : r.said ≡ WellFormed → Fine r.board
+  pub read_board : {b : Board} → r ≡ Ok b → Fine b
   read_board q = read_fine image (given_board q)
 
 -- ---- what is told lies within the room

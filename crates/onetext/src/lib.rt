@@ -1,7 +1,7 @@
 // The whole text of the program `oneboard`, written into lent room.
 #![tactic(auto)]
 
-ghost use Rattle.std.specs.Prelude.{◌≡◌, false, ◌+◌, ◌*◌, ◌≤◌, length};
+ghost use Rattle.std.specs.Prelude.{false, ◌+◌, ◌≤◌, length};
 ghost use Rattle.board.specs.Record.{shown};
 ghost use Rattle.intake.proofs.Accepted.{Fine};
 ghost use Rattle.base.specs.Put.{Puts};
@@ -10,7 +10,7 @@ ghost use Rattle.onetext.specs.Text.{answer_text, hand_text};
 ghost use Rattle.onetext.specs.Told.{Tells};
 ghost use Rattle.onetext.specs.Inner.{Scratch};
 
-use board::{Board, Examined};
+use board::Board;
 use moves::LIST_ROOM;
 
 mod write;
@@ -31,13 +31,15 @@ fn put_answer(
     requires scratch { Scratch nodes.old heap.old keys.old costs.old list.old }
     ensures { Puts out.old out.new at result (answer_text (judge (shown b) 100 64 false)) }
 {
-    let j = solver::solve(b, 100, false, nodes, heap, keys, costs, list);
-    let pops = j.pops as u8;
-    let moves = j.moves as u8;
-    let said = j.said;
-    let first = [finish::number(said), pops, moves];
+    // it is not refused: the board is fine, and all that is lent is long enough
+    let Ok(judged) = solver::solve(b, 100, false, nodes, heap, keys, costs, list) else {
+        return at;
+    };
+    let pops = judged.pops as u8;
+    let moves = judged.moves as u8;
+    let first = [finish::number(judged.said), pops, moves];
     let after = write::put_line(out, at, &first);
-    write::put_records(out, after, list, j.moves)
+    write::put_records(out, after, list, judged.moves)
 }
 
 // The token on a line, and the answer; the search gets room for 64 nodes.
@@ -69,11 +71,8 @@ pub fn judge_image(image: &[u8], out: &mut [u8]) -> usize
     if 1024 < image.len() {
         return write::put_line(out, 0, &[10]);
     }
-    let read = intake::image::read(image);
-    let said = read.said;
-    if let Examined::Refused(why) = said {
-        let alone = [board::number(why)];
-        return write::put_line(out, 0, &alone);
+    match intake::image::read(image) {
+        Ok(b) => put_hand(b, out),
+        Err(why) => write::put_line(out, 0, &[board::number(why)]),
     }
-    put_hand(read.board, out)
 }

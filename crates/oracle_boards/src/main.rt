@@ -2,53 +2,61 @@
 // its input and the output that is expected are the original's (compare/src/oracle_boards.rs).
 #![tactic(auto)]
 
-mod answers;
-
+use saying::Spaced;
 use std::io;
+use std::io::Read;
 
-// The bytes of an item: an image after a byte 1, a deck of 52 after a byte 2; 0 for anything else.
-fn item_size(tag: u8, high: u8, low: u8) -> usize {
-    if tag == 1 {
-        let count = high as usize * 256 + low as usize;
-        return count + 3;
-    }
-    if tag == 2 {
-        return 53;
-    }
-    0
+// An image after a byte 1, a deck of 52 after a byte 2.
+#[derive(Clone, Copy)]
+enum Item<'a> {
+    Image(&'a [u8]),
+    Deck(&'a [u8]),
 }
 
-// Writes the line of the first item, and answers how many bytes it took; 0 where no whole item is left.
-fn item(rt: &impl Print, s: &[u8]) -> io::Result<usize> {
-    if s.len() < 3 {
-        return Ok(0);
+impl<'a> framed::Item<'a> for Item<'a> {
+    fn take(bytes: &mut &'a [u8]) -> Option<Item<'a>> {
+        match bytes.split_off_first()? {
+            1 => framed::with_count(bytes).map(Item::Image),
+            2 => bytes.split_off(..52).map(Item::Deck),
+            _ => None,
+        }
     }
-    let size = item_size(s[0], s[1], s[2]);
-    if size < 1 {
-        return Ok(0);
-    }
-    if s.len() < size {
-        return Ok(0);
-    }
-    if s[0] == 1 {
-        answers::of_image(rt, &s[1..size])?;
-    } else {
-        answers::of_deck(rt, &s[1..size])?;
-    }
-    Ok(size)
 }
 
-fn items(rt: &impl Print, s: &[u8]) -> io::Result<()> {
-    let mut at = 0;
-    while at < s.len() {
-        let size = item(rt, &s[at..])?;
-        at = framed::after(at, size, s.len());
+// The line about a board: the plain answers, or a refusal by its number.
+fn of_image(rt: &impl Print, image: &[u8]) -> io::Result<()> {
+    match intake::image::read(image) {
+        Ok(b) => {
+            print!(rt; "{} ", Spaced(&saying::tops(b)))?;
+            print!(rt; "{} ", Spaced(&saying::cells(b)))?;
+            print!(rt; "{} ", Spaced(&saying::home(b)))?;
+            println!(rt; "{}", Spaced(&saying::totals(b)))
+        }
+        Err(why) => println!(rt; "{}", saying::refusal(why)),
     }
-    Ok(())
+}
+
+// The line about a deck: its columns, or a refusal by its number.
+fn of_deck(rt: &impl Print, deck: &[u8]) -> io::Result<()> {
+    match intake::deal::deal(deck) {
+        Ok(b) => {
+            for (codes, _) in saying::columns(&b) {
+                print!(rt; "{} |", Spaced(codes))?;
+            }
+            println!(rt)
+        }
+        Err(why) => println!(rt; "{}", saying::refusal(why)),
+    }
 }
 
 fn main(rt: HostRuntime) -> io::Result<()> {
-    let mut input = [0u8; 65536];
-    let n = taking::read_full(&mut rt.stdin(), &mut input)?;
-    items(&rt, &input[..n])
+    let mut bytes = Vec::new(rt.alloc());
+    rt.stdin().take(framed::MOST).read_to_end(&mut bytes)?;
+    for item in framed::items_in::<Item>(&bytes) {
+        match item {
+            Item::Image(image) => of_image(&rt, image)?,
+            Item::Deck(deck) => of_deck(&rt, deck)?,
+        }
+    }
+    Ok(())
 }

@@ -2,91 +2,43 @@
 // with published hashes and with the original's signatures (compare/src/oracle_signatures.rs).
 #![tactic(auto)]
 
-use board::{Examined, Refusal};
-use signature::SignatureAnswer;
 use std::io;
+use std::io::Read;
 
-// A two-byte count, the higher byte first.
-fn count(high: u8, low: u8) -> usize {
-    let upper = high as usize * 256;
-    upper + low as usize
+// An image after a byte 1, the heading of the second list at a byte 3, octets after their count and any other byte.
+#[derive(Clone, Copy)]
+enum Item<'a> {
+    Image(&'a [u8]),
+    Heading,
+    Octets(&'a [u8]),
 }
 
-fn refusal(rt: &impl Print, why: Refusal) -> io::Result<()> {
-    rt.print(board::number(why) as u64)
-}
-
-// A word as sixteen digits.
-fn word(rt: &impl Print, n: u64) -> io::Result<()> {
-    print!(rt; "{n:016x}")
-}
-
-fn line_end(rt: &impl Print) -> io::Result<()> {
-    rt.write_all(b"\n")
+impl<'a> framed::Item<'a> for Item<'a> {
+    fn take(bytes: &mut &'a [u8]) -> Option<Item<'a>> {
+        match bytes.split_off_first()? {
+            1 => framed::with_count(bytes).map(Item::Image),
+            3 => Some(Item::Heading),
+            _ => framed::counted(bytes).map(Item::Octets),
+        }
+    }
 }
 
 fn of_image(rt: &impl Print, image: &[u8]) -> io::Result<()> {
-    let read = intake::image::read(image);
-    let said = read.said;
-    let b = read.board;
-    match said {
-        Examined::WellFormed => match signature::signature_of(b) {
-            SignatureAnswer::Signature(n) => word(rt, n)?,
-            SignatureAnswer::Refused(why) => refusal(rt, why)?,
-        },
-        Examined::Refused(why) => refusal(rt, why)?,
+    match intake::image::read(image).and_then(signature::signature_of) {
+        Ok(n) => println!(rt; "{n:016x}"),
+        Err(why) => println!(rt; "{}", saying::refusal(why)),
     }
-    line_end(rt)
-}
-
-fn of_octets(rt: &impl Print, octets: &[u8]) -> io::Result<()> {
-    word(rt, signature::fnv1a(octets))?;
-    line_end(rt)
-}
-
-// Writes the line of an item of n octets or an image (both after a byte and a count), and answers how many bytes it took.
-fn counted(rt: &impl Print, s: &[u8], size: usize) -> io::Result<usize> {
-    if s.len() < size {
-        return Ok(0);
-    }
-    if size < 3 {
-        return Ok(0);
-    }
-    if s[0] == 1 {
-        of_image(rt, &s[1..size])?;
-    } else {
-        of_octets(rt, &s[3..size])?;
-    }
-    Ok(size)
-}
-
-// Writes the line of the first item, and answers how many bytes it took; 0 where no whole item is left.
-fn item(rt: &impl Print, s: &[u8]) -> io::Result<usize> {
-    if s.len() < 1 {
-        return Ok(0);
-    }
-    if s[0] == 3 {
-        rt.write_all(b"columns over seven\n")?;
-        return Ok(1);
-    }
-    if s.len() < 3 {
-        return Ok(0);
-    }
-    let size = count(s[1], s[2]) % 65536 + 3;
-    counted(rt, s, size)
-}
-
-fn items(rt: &impl Print, s: &[u8]) -> io::Result<()> {
-    let mut at = 0;
-    while at < s.len() {
-        let size = item(rt, &s[at..])?;
-        at = framed::after(at, size, s.len());
-    }
-    Ok(())
 }
 
 fn main(rt: HostRuntime) -> io::Result<()> {
-    let mut input = [0u8; 65536];
-    let n = taking::read_full(&mut rt.stdin(), &mut input)?;
-    items(&rt, &input[..n])
+    let mut bytes = Vec::new(rt.alloc());
+    rt.stdin().take(framed::MOST).read_to_end(&mut bytes)?;
+    for item in framed::items_in::<Item>(&bytes) {
+        match item {
+            Item::Image(image) => of_image(&rt, image)?,
+            Item::Heading => println!(rt; "columns over seven")?,
+            Item::Octets(octets) => println!(rt; "{:016x}", signature::fnv1a(octets))?,
+        }
+    }
+    Ok(())
 }

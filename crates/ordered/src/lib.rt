@@ -10,10 +10,9 @@ ghost use Rattle.candidates.specs.Candidates.{candidates};
 ghost use Rattle.candidates.specs.Inner.{tried_room};
 
 use board::verdict::inspect;
-use board::{Board, CODES, Examined, Refusal};
+use board::{Board, CODES, Refusal};
 use candidates::{MOST_TRIED, TRIED_ROOM};
 use generate::RECORD_ROOM;
-use questions::CountAnswer;
 
 pub mod ranks;
 
@@ -40,15 +39,13 @@ pub fn candidates_at<'a>(
 }
 
 // 12 to 15, 21, or the candidates of a board in order.
-pub fn candidates_of(b: Board, out: &mut [u8]) -> CountAnswer
+pub fn candidates_of(b: Board, out: &mut [u8]) -> Result<usize, Refusal>
     ensures { Finds b (candidates (shown b)) out.old out.new result }
 {
-    if let Examined::Refused(why) = inspect(&b.cells, &b.foundation, &b.counts, &b.tableau) {
-        return CountAnswer::Refused(why);
-    }
+    inspect(&b.cells, &b.foundation, &b.counts, &b.tableau)?;
     if out.len() < RECORD_ROOM {
-        return CountAnswer::Refused(Refusal::LittleRoom);
+        return Err(Refusal::LittleRoom);
     }
     let made = candidates_at(&b.cells, &b.foundation, &b.counts, &b.tableau, out);
-    CountAnswer::Count(made)
+    Ok(made)
 }

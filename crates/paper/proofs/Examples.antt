@@ -3,6 +3,7 @@ use mathlib.Core.Path.{◌≡◌, refl}
 use mathlib.Core.List.{List, [], ◌∷◌, ◌++◌}
 use Prim.Native.Nat.{ℕ}
 use lib.ListN.{replicate}
+use Rattle.std.specs.Prelude.{Result, Ok, Err}
 use Rattle.board.specs.Table.{Table}
 use Rattle.moves.specs.Written.{bytes_of}
 use Rattle.moves.specs.declared.Move.{Move}
@@ -12,8 +13,7 @@ use Rattle.writing.specs.Lines.{text_of, writable_first}
 use Rattle.reading.specs.Lines.{line_read}
 use Rattle.sense.specs.Outcome.{Outcome, gives, refuses, refuses_at}
 use Rattle.writing.specs.Asked.{moves_of}
-use Rattle.notation.specs.declared.Formed.{Formed}
-use Rattle.notation.specs.declared.Formed.TheVariants.{Moves, WrongAt}
+use Rattle.notation.specs.declared.WrongSign.{WrongSign}
 use Rattle.notation.specs.declared.Jot.TheVariants.{ToCell, ToHome}
 use Rattle.paper.proofs.Opened.{opened}
 
@@ -27,7 +27,10 @@ reads : Table → List (List ℕ) → List (Outcome (List ℕ))
 reads t [] = []
 reads t (text ∷ texts) = in_bytes (line_read t text) ∷ reads t texts
 
-forms : List (List ℕ) → List Formed
+abbrev wrong_at : ℕ → Result ℕ WrongSign
+wrong_at p = Err (record { place = p })
+
+forms : List (List ℕ) → List (Result ℕ WrongSign)
 forms [] = []
 forms (text ∷ texts) = formed_by (line_in text) ∷ forms texts
 
@@ -160,13 +163,13 @@ over_limit_lem = refl
 
 -- cut short: 1, 12v, and a space at the end; the empty text is a line
 short : forms ([] ∷ (49 ∷ []) ∷ (49 ∷ 50 ∷ 118 ∷ []) ∷ (49 ∷ 50 ∷ 32 ∷ []) ∷ (49 ∷ 50 ∷ 118 ∷ 51 ∷ 32 ∷ []) ∷ [])
-    ≡ Moves 0 ∷ WrongAt 1 ∷ WrongAt 3 ∷ WrongAt 3 ∷ WrongAt 5 ∷ []
+    ≡ Ok 0 ∷ wrong_at 1 ∷ wrong_at 3 ∷ wrong_at 3 ∷ wrong_at 5 ∷ []
 unfolding opened forms
 short = refl
 
 -- a space before, two between, none between, a newline after: ` 12`, `12  13`, `1213`, `12\n`
 spaces : forms ((32 ∷ 49 ∷ 50 ∷ []) ∷ (49 ∷ 50 ∷ 32 ∷ 32 ∷ 49 ∷ 51 ∷ []) ∷ (49 ∷ 50 ∷ 49 ∷ 51 ∷ []) ∷ (49 ∷ 50 ∷ 10 ∷ []) ∷ [])
-    ≡ WrongAt 0 ∷ WrongAt 3 ∷ WrongAt 2 ∷ WrongAt 2 ∷ []
+    ≡ wrong_at 0 ∷ wrong_at 3 ∷ wrong_at 2 ∷ wrong_at 2 ∷ []
 unfolding opened forms
 spaces = refl
 
@@ -179,7 +182,7 @@ counts : forms (
     ∷ (49 ∷ 97 ∷ 118 ∷ 49 ∷ [])
     ∷ (97 ∷ 49 ∷ 118 ∷ 49 ∷ [])
     ∷ (49 ∷ 104 ∷ 118 ∷ 49 ∷ [])
-    ∷ []) ≡ WrongAt 3 ∷ WrongAt 3 ∷ WrongAt 2 ∷ WrongAt 4 ∷ WrongAt 2 ∷ WrongAt 2 ∷ WrongAt 2 ∷ []
+    ∷ []) ≡ wrong_at 3 ∷ wrong_at 3 ∷ wrong_at 2 ∷ wrong_at 4 ∷ wrong_at 2 ∷ wrong_at 2 ∷ wrong_at 2 ∷ []
 unfolding opened forms
 counts = refl
 
@@ -195,7 +198,7 @@ places : forms (
     ∷ (49 ∷ 57 ∷ [])
     ∷ (49 ∷ 101 ∷ [])
     ∷ (49 ∷ 72 ∷ [])
-    ∷ []) ≡ WrongAt 0 ∷ WrongAt 0 ∷ WrongAt 0 ∷ WrongAt 0 ∷ WrongAt 0 ∷ WrongAt 1 ∷ WrongAt 1 ∷ WrongAt 1 ∷ WrongAt 1 ∷ WrongAt 1 ∷ []
+    ∷ []) ≡ wrong_at 0 ∷ wrong_at 0 ∷ wrong_at 0 ∷ wrong_at 0 ∷ wrong_at 0 ∷ wrong_at 1 ∷ wrong_at 1 ∷ wrong_at 1 ∷ wrong_at 1 ∷ wrong_at 1 ∷ []
 unfolding opened forms
 places = refl
 

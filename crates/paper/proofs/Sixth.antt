@@ -1,15 +1,15 @@
 -- The first move that cannot be written, by the first bytes of the records of a list that can be played.
-use mathlib.Core.Path.{◌≡◌, refl, ap, subst}
+use mathlib.Core.Path.{◌≡◌, refl, sym, ap, subst, ◌∙◌}
 use mathlib.Core.Bool.{true}
-use mathlib.Core.List.{List, [], ◌∷◌}
+use mathlib.Core.List.{List, [], ◌∷◌, ◌++◌}
 use Prim.Native.Nat.{ℕ, zero, suc, ◌+◌, ◌*◌, ◌/◌, ◌%◌, ◌<◌, ◌≤◌}
 use native.Mathlib.Omega.{arith}
-use borrow.Author.Tests.{ltb-true, lt-ltb, lt-leb, ne_eqb, le-ltb}
-use lib.Dec.{eqb, ltb}
-use lib.ListN.{length, get_or, take, drop}
-use lib.Seq.{get_or-take, get_or-drop}
+use borrow.Author.Tests.{ltb-true, lt-ltb, le-leb, lt-leb, ne_eqb, le-ltb}
+use lib.Dec.{eqb, leb, ltb}
+use lib.ListN.{length, get_or, take, drop, length-drop, take-append-drop}
+use lib.Seq.{get_or-take, get_or-drop, drop-drop, length-take-le}
 use Rattle.base.specs.Answer.{Answer, given, refused}
-use Rattle.base.proofs.Words.{first, second, get_or-listed, length-listed}
+use Rattle.base.proofs.Words.{both, first, second, second_fails, get_or-listed, length-listed}
 use Rattle.card.specs.Card.{is_card}
 use Rattle.board.specs.Verdict.{fine}
 use Rattle.board.specs.declared.Board.{Board}
@@ -59,40 +59,58 @@ line-possible (r ∷ rs) b e k h = by (stepped b r) refl e (line-possible rs) k 
     by (given c) q e on (suc k) h = on c e k (omega arith)
     by (refused n) q e on k h = let z : ◌≡◌ {A = ℕ} 0 1 = cc in absurd (let w : ⊥ = omega arith in w)
 
+-- ---- the records, one after the other
+
+module _ (bytes : List ℕ) where
+  abbrev record_at : ℕ → List ℕ
+  record_at k = take 5 (drop (k * 5) bytes)
+
+  kind_at : (k : ℕ) → get_or (record_at k) 0 0 ≡ get_or bytes (k * 5) 0
+  kind_at k =
+      get_or-take 5 (drop (k * 5) bytes) 0 0 (omega arith) ∙ get_or-drop (k * 5) bytes 0 0
+      ∙ ap (λ (i : ℕ). get_or bytes i 0) (let z : k * 5 + 0 ≡ k * 5 = omega arith in z)
+
+  parts : (k : ℕ) → drop (k * 5) bytes ≡ record_at k ++ drop (suc k * 5) bytes
+  parts k =
+      sym (take-append-drop 5 (drop (k * 5) bytes))
+      ∙ ap (λ (l : List ℕ). record_at k ++ l) (drop-drop 5 (k * 5) bytes ∙ ap (λ (n : ℕ). drop n bytes) (let z : k * 5 + 5 ≡ suc k * 5 = omega arith in z))
+
+  five : length bytes % 5 ≡ 0 → (k : ℕ) → k * 5 < length bytes → length (record_at k) ≡ 5
+  five whole k h = length-take-le 5 (drop (k * 5) bytes) (let d = length-drop (k * 5) bytes in omega arith)
+
 module _ (b : Board) (bytes : List ℕ) (whole : length bytes % 5 ≡ 0) (plays : (line_from b (records_in bytes)).verdict ≡ fine) where
   kind_of : (k : ℕ) → k * 5 < length bytes → (1 ≤ get_or bytes (k * 5) 0) × (get_or bytes (k * 5) 0 ≤ 6)
   unfolding records_in
   kind_of k h =
       let n = length-listed (λ i. take 5 (drop (i * 5) bytes)) (length bytes / 5) in
       let p = line-possible (records_in bytes) b plays k (omega arith) in
-      let r = kind_possible (take 5 (drop (k * 5) bytes)) (subst (λ (l : List ℕ). possible l ≡ true) (get_or-listed (λ i. take 5 (drop (i * 5) bytes)) (length bytes / 5) k [] (omega arith)) p) in
-      let q = get_or-take 5 (drop (k * 5) bytes) 0 0 (omega arith) in
-      let d = get_or-drop (k * 5) bytes 0 0 in
-      let s : get_or bytes (k * 5 + 0) 0 ≡ get_or bytes (k * 5) 0 = ap (λ (i : ℕ). get_or bytes i 0) (let z : k * 5 + 0 ≡ k * 5 = omega arith in z) in
+      let r = kind_possible (record_at bytes k) (subst (λ (l : List ℕ). possible l ≡ true) (get_or-listed (λ i. take 5 (drop (i * 5) bytes)) (length bytes / 5) k [] (omega arith)) p) in
+      let s = kind_at bytes k in
       (omega arith, omega arith)
 
   -- as far as no record is of kind 6, each can be written
-  looked_to : (p : ℕ) → p * 5 ≤ length bytes → ((k : ℕ) → k < p → get_or bytes (k * 5) 0 ≡ 6 → ⊥) → Looked bytes p (p * 5)
-  looked_to zero h none = looked_start bytes whole
+  looked_to : (p : ℕ) → p * 5 ≤ length bytes → ((k : ℕ) → k < p → get_or bytes (k * 5) 0 ≡ 6 → ⊥) → Looked bytes (drop (p * 5) bytes) p
+  looked_to zero h none = looked_start bytes refl refl
   looked_to (suc p) h none =
       let r = looked_to p (omega arith) (λ k l. none k (omega arith)) in
+      let kind = get_or (record_at bytes p) 0 0 in
       let b = kind_of p (omega arith) in
-      let turn = looked_turn bytes whole r (λ f t n code. kind_writes f t n code (get_or bytes (p * 5) 0) (λ z. let w : ⊥ = omega arith in w)) (omega arith)
-      (lt-ltb (get_or bytes (p * 5) 0) 6 (below (get_or bytes (p * 5) 0) b.1 (none p (omega arith)))) in
-      subst (λ (n : ℕ). Looked bytes (suc p) n) (let z : p * 5 + 5 ≡ suc p * 5 = omega arith in z)
-      (subst (λ (n : ℕ). Looked bytes n (p * 5 + 5)) (let z : p + 1 ≡ suc p = omega arith in z) turn)
-    where
-      below : (kind : ℕ) → kind ≤ 6 → (kind ≡ 6 → ⊥) → kind < 6
-      below kind h d = omega arith
+      let s = kind_at bytes p in
+      let d = none p (omega arith) in
+      looked_turn r (record_at bytes p) (drop (suc p * 5) bytes) (parts bytes p) (five bytes whole p (omega arith)) (λ f t n code. kind_writes f t n code kind)
+      (both (le-leb 1 kind (omega arith)) (lt-ltb kind 6 (omega arith))) {n = suc p} (omega arith)
 
   -- a record of kind 6 with none before it is the first that cannot be written
   pub first_sixth : (p : ℕ) → p * 5 < length bytes → get_or bytes (p * 5) 0 ≡ 6 → ((k : ℕ) → k < p → get_or bytes (k * 5) 0 ≡ 6 → ⊥)
-      → p ≡ writable_first (moves_in bytes)
+      → (p ≡ writable_first (moves_in bytes)) × (p < length (moves_in bytes))
   first_sixth p h six none =
-      looked_stop bytes whole (looked_to p (omega arith) none)
-      (λ f t n code. kind_writes f t n code (get_or bytes (p * 5) 0) (λ z. let w : ⊥ = omega arith in w)) h (le-ltb (get_or bytes (p * 5) 0) 6 (omega arith))
+      let kind = get_or (record_at bytes p) 0 0 in
+      let s = kind_at bytes p in
+      looked_stop (looked_to p (omega arith) none) (record_at bytes p) (drop (suc p * 5) bytes) (parts bytes p) (five bytes whole p h) (λ f t n code. kind_writes f t n code kind)
+      (second_fails (leb 1 kind) (ltb kind 6) (le-ltb kind 6 (omega arith))) {place = p} refl
 
   -- with none of kind 6 all can be written
-  pub none_sixth : ((k : ℕ) → k * 5 < length bytes → get_or bytes (k * 5) 0 ≡ 6 → ⊥) → length bytes / 5 ≡ writable_first (moves_in bytes)
+  pub none_sixth : ((k : ℕ) → k * 5 < length bytes → get_or bytes (k * 5) 0 ≡ 6 → ⊥) → writable_first (moves_in bytes) ≡ length (moves_in bytes)
   none_sixth none =
-      looked_end bytes whole (looked_to (length bytes / 5) (omega arith) (λ k h. none k (omega arith))) (omega arith)
+      let d = length-drop (length bytes / 5 * 5) bytes in
+      looked_end (looked_to (length bytes / 5) (omega arith) (λ k h. none k (omega arith))) (omega arith)

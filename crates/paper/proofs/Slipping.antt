@@ -3,11 +3,11 @@ use mathlib.Core.Path.{◌≡◌, refl, sym, ap, ◌∙◌}
 use mathlib.Core.Bool.{Bool, true, false, cond, not}
 use Prim.Native.Nat.{ℕ, zero, suc, ◌-◌, ◌<◌, ◌≤◌}
 use native.Mathlib.Omega.{arith}
-use borrow.Author.Tests.{eq-eqb, ne_eqb}
-use lib.Dec.{eqb}
+use borrow.Author.Tests.{eq-eqb, ne_eqb, lt-leb, le-ltb}
+use lib.Dec.{eqb, leb, ltb}
 use lib.ListN.{length}
 use Rattle.base.specs.Answer.{given, refused}
-use Rattle.base.proofs.Words.{not_so}
+use Rattle.base.proofs.Words.{not_so, first_fails, second_fails}
 use Rattle.board.specs.Table.{Table}
 use Rattle.runs.specs.Run.{run_length}
 use Rattle.moves.specs.Play.{there}
@@ -46,10 +46,10 @@ module _ (t : Table) (i j : ℕ) (away : not (eqb i j) ≡ true) (some : 1 ≤ l
   count_occupied n h = meant-sense t (Counted i j n) away some ∙ sym (finding.count_occupied t i j n (occupied t j h))
 
   pub count_none : (n : ℕ) → n ≡ 0 → meant t (Counted i j n) ≡ refused 30
-  count_none n e = meant-sense t (Counted i j n) away some ∙ sym (finding.count_none t i j n e)
+  count_none n e = meant-sense t (Counted i j n) away some ∙ sym (finding.count_outside t i j n {most = most_into t i j} refl (first_fails (leb 1 n) (ltb n (most_into t i j)) (lt-leb 1 n (omega arith))))
 
   pub count_most : (n : ℕ) → most_into t i j ≤ n → meant t (Counted i j n) ≡ refused 30
-  count_most n h = meant-sense t (Counted i j n) away some ∙ sym (finding.count-over t i j n {most = most_into t i j} refl h)
+  count_most n h = meant-sense t (Counted i j n) away some ∙ sym (finding.count_outside t i j n {most = most_into t i j} refl (second_fails (leb 1 n) (ltb n (most_into t i j)) (le-ltb n (most_into t i j) h)))
 
   pub count_means : (n : ℕ) → length (there t (column j)) ≡ 0 → 1 ≤ n → n < most_into t i j → meant t (Counted i j n) ≡ given (offered t ColumnToColumn i j n)
   count_means n e one less =
@@ -69,7 +69,7 @@ module _ (t : Table) (i j : ℕ) (away : not (eqb i j) ≡ true) (some : 1 ≤ l
         let q : suc (n - 1) ≡ n = omega arith in
         let f = fitting_is t i j (occupied t j laid) (n - 1) (omega arith) (ap (fit_from t i j) q ∙ fits) ∙ q in
         meant-sense t (Between i j) away some
-        ∙ sym (finding.means_fit t i j (occupied t j laid) {n = n} (sym f) (λ z. let w : ⊥ = omega arith in w) {m = offered t ColumnToColumn i j n} refl)
+        ∙ sym (finding.means_fit t i j (occupied t j laid) {n = n} (sym f) one {m = offered t ColumnToColumn i j n} refl)
 
     module _ (none : (n : ℕ) → 1 ≤ n → n ≤ run_length (there t (column i)) → fit_from t i j n ≡ true → ⊥) where
       none_in : (most : ℕ) → most ≤ run_length (there t (column i)) → fitting_in t i j most ≡ 0
@@ -83,4 +83,4 @@ module _ (t : Table) (i j : ℕ) (away : not (eqb i j) ≡ true) (some : 1 ≤ l
       unfolding fitting
       none_fits_lem =
           meant-sense t (Between i j) away some
-          ∙ sym (finding.fits_none t i j (occupied t j laid) {n = 0} (sym (none_in (run_length (there t (column i))) (omega arith))) refl)
+          ∙ sym (finding.fits_none t i j (occupied t j laid) (none_in (run_length (there t (column i))) (omega arith)))

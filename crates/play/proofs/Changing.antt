@@ -5,7 +5,6 @@ use mathlib.Core.List.{List, [], ◌∷◌, ◌++◌}
 use Prim.Native.Nat.{ℕ, ◌+◌, ◌-◌, ◌*◌, ◌<◌, ◌≤◌}
 use native.Mathlib.Omega.{arith}
 use native.Mathlib.Decide.{ℕ_discrete, dec_lt}
-use borrow.Author.Count.{below_more}
 use lib.ListN.{length, get_or, take, drop, set, length-set, length-append, length-take, length-drop, take-append-drop, get_or-eq_default, get_or-append}
 use lib.Seq.{ext_get_or, get_or-set_same, get_or-set_other, get_or-append_seam, get_or-append-add, get_or-take, get_or-drop}
 use Rattle.base.specs.Words.{all, listed}
@@ -18,7 +17,7 @@ use Rattle.board.proofs.Soundness.{column_length, column_code}
 use Rattle.questions.proofs.Asking.{shown_column}
 use Rattle.moves.specs.declared.Place.TheVariants.{Column as column, Cell as cell, Home as home}
 use Rattle.moves.specs.Play.{put, there, others_of, last_of, cell_code}
-use Rattle.play.specs.Change.{Becomes, Cleared, Apart, Copied}
+use Rattle.play.specs.Change.{Becomes, Cleared, Copied}
 
 one_card : (x : ℕ) → is_card x ≡ true → all is_card (x ∷ []) ≡ true
 unfolding all
@@ -155,50 +154,6 @@ module _ (b : Board) (g : GoodColumns b.counts b.tableau) (i : ℕ) (h : i < 8) 
       column_cards : all is_card col ≡ true
       column_cards = all_by is_card col (λ j m. let n = column_length g i h in
           subst (λ (x : ℕ). is_card x ≡ true) (sym (column_code b.counts b.tableau i j (omega arith))) (g.codes i j h (omega arith)))
-
--- ---- zeros, place by place
-
-module _ (old : List ℕ) (at : ℕ) where
-  pub cleared_none : Cleared old old at 0
-  cleared_none = record { long = refl; zero = λ k h. omega arith; below = λ p h. refl; above = λ p h. refl }
-
-  pub cleared_more : {new : List ℕ} (n : ℕ) → Cleared old new at n → at + n < length old → Cleared old (set new (at + n) 0) at (n + 1)
-  cleared_more {new} n c h =
-      record {
-        long = length-set new (at + n) 0 ∙ c.long;
-        zero = below_more (λ (k : ℕ). get_or (set new (at + n) 0) (at + k) 0 ≡ 0) n
-            (λ k l. get_or-set_other new (at + n) (at + k) 0 0 (λ z. let y : ⊥ = omega arith in y) ∙ c.zero k l)
-            (get_or-set_same new (at + n) 0 0 (let e = c.long in omega arith));
-        below = λ p l. get_or-set_other new (at + n) p 0 0 (λ z. let y : ⊥ = omega arith in y) ∙ c.below p l;
-        above = λ p l. get_or-set_other new (at + n) p 0 0 (λ z. let y : ⊥ = omega arith in y) ∙ c.above p (omega arith);
-      }
-
--- ---- a copy, place by place
-
-module _ (old : List ℕ) (from to : ℕ) where
-  pub copied_none : Copied old old from to 0
-  copied_none = record { long = refl; same = λ k h. omega arith; below = λ p h. refl; above = λ p h. refl }
-
-  -- what is read is still what stood there at first
-  unread : {new : List ℕ} (m n : ℕ) → Apart from to m → Copied old new from to n → n < m → get_or new (from + n) 0 ≡ get_or old (from + n) 0
-  unread {new} m n a c h = by_side (dec_lt (from + n) to) (dec_lt (from + n) (to + n))
-    where
-      by_side : Dec (from + n < to) → Dec (from + n < to + n) → get_or new (from + n) 0 ≡ get_or old (from + n) 0
-      by_side (yes l) d = c.below (from + n) l
-      by_side (no l) (no d) = c.above (from + n) (omega arith)
-      by_side (no l) (yes d) = absurd (a.never n (from + n - to) h (omega arith) (omega arith))
-
-  pub copied_more : {new : List ℕ} (m n : ℕ) → Apart from to m → Copied old new from to n → n < m → to + n < length old
-      → Copied old (set new (to + n) (get_or new (from + n) 0)) from to (n + 1)
-  copied_more {new} m n a c h l =
-      record {
-        long = length-set new (to + n) _ ∙ c.long;
-        same = below_more (λ (k : ℕ). get_or (set new (to + n) (get_or new (from + n) 0)) (to + k) 0 ≡ get_or old (from + k) 0) n
-            (λ k b. get_or-set_other new (to + n) (to + k) _ 0 (λ z. let y : ⊥ = omega arith in y) ∙ c.same k b)
-            (get_or-set_same new (to + n) _ 0 (let e = c.long in omega arith) ∙ unread m n a c h);
-        below = λ p b. get_or-set_other new (to + n) p _ 0 (λ z. let y : ⊥ = omega arith in y) ∙ c.below p b;
-        above = λ p b. get_or-set_other new (to + n) p _ 0 (λ z. let y : ⊥ = omega arith in y) ∙ c.above p (omega arith);
-      }
 
 -- ---- the top n cards gone
 

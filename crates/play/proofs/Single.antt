@@ -1,4 +1,5 @@
 -- Moves of one card: every kind but a run's; and why such a move is refused.
+use Rattle.std.specs.Prelude.{None, Some, Option}
 use mathlib.Core.Path.{◌≡◌, refl, sym, ap, ◌∙◌}
 use mathlib.Core.Bool.{true}
 use Prim.Native.Nat.{ℕ, ◌≤◌}
@@ -15,8 +16,6 @@ use Rattle.board.specs.Inner.{Sound}
 use Rattle.board.specs.declared.Board.{Board}
 use Rattle.board.proofs.Fair.{shows_fair}
 use Rattle.questions.specs.Questions.{top_of}
-use Rattle.questions.specs.declared.Top.{Top}
-use Rattle.questions.specs.declared.Top.TheVariants.{Is, Empty}
 use Rattle.moves.specs.Move.{from, to, count, card, sayable}
 use Rattle.moves.specs.Play.{there, hand, elsewhere, within_limit}
 use Rattle.moves.specs.Causes.{ruling}
@@ -41,11 +40,11 @@ of_one (FoundationToTableau s d c) k = (refl, (refl, λ t. refl))
 -- ---- why a move of one card is refused
 
 module _ (b : Board) (m : Move) (sound : Sound b) (said : sayable m ≡ true) (one : count m ≡ 1) (away : elsewhere (from m) (to m) ≡ true)
-    (limit : within_limit (shown b) (from m) (to m) (count m) ≡ true) {top : Top} (e : top ≡ top_of (there (shown b) (from m))) where
-  pub one_empty : top ≡ Empty → refused 33 ≡ ruling (shown b) m
+    (limit : within_limit (shown b) (from m) (to m) (count m) ≡ true) {top : Option Card} (e : top ≡ top_of (there (shown b) (from m))) where
+  pub one_empty : top ≡ None → refused 33 ≡ ruling (shown b) m
   one_empty q = sym (ruled_empty (shown b) m away (let z = top_empty (there (shown b) (from m)) (sym e ∙ q) in omega arith))
 
-  module _ {c : Card} (q : top ≡ Is c) where
+  module _ {c : Card} (q : top ≡ Some c) where
     cards : all is_card (there (shown b) (from m)) ≡ true
     cards = fair_cards (shown b) (from m) (shows_fair sound) (said_from m said)
 

@@ -1,4 +1,5 @@
 -- The last card at a place: of a list of cards, and of a column, a cell and a foundation of a record.
+use Rattle.std.specs.Prelude.{None, Some, Option}
 use mathlib.Core.Path.{◌≡◌, refl, sym, ap, ap₂, ◌∙◌, subst}
 use mathlib.Core.Bool.{Bool, true, false, cond}
 use mathlib.Core.List.{List, [], ◌∷◌}
@@ -19,8 +20,6 @@ use Rattle.board.specs.Record.{column_at, shown}
 use Rattle.board.specs.Inner.{Sound}
 use Rattle.board.specs.declared.Board.{Board}
 use Rattle.questions.specs.Questions.{top_of, cell_of}
-use Rattle.questions.specs.declared.Top.{Top}
-use Rattle.questions.specs.declared.Top.TheVariants.{Is, Empty}
 use Rattle.questions.proofs.Asking.{top_none, top_some, shown_column, shown_cells, shown_foundation}
 use Rattle.moves.specs.declared.Place.{Place}
 use Rattle.moves.specs.declared.Place.TheVariants.{Column as column, Cell as cell, Home as home}
@@ -30,21 +29,21 @@ use Rattle.moves.proofs.Allowing.{last_first}
 
 -- ---- of a list of cards
 
-pub top_empty : (l : List ℕ) → top_of l ≡ Empty → length l ≡ 0
+pub top_empty : (l : List ℕ) → top_of l ≡ None → length l ≡ 0
 top_empty [] e = refl
 top_empty (x ∷ l) e =
     let s = top_some (x ∷ l) (length l) refl in
     let z : ◌≡◌ {A = ℕ} 0 1 = cc in
     absurd (let w : ⊥ = omega arith in w)
 
-pub some_there : (l : List ℕ) (c : Card) → top_of l ≡ Is c → length l ≡ suc (length l - 1)
+pub some_there : (l : List ℕ) (c : Card) → top_of l ≡ Some c → length l ≡ suc (length l - 1)
 some_there [] c e =
     let n = top_none [] refl in
     let z : ◌≡◌ {A = ℕ} 0 1 = cc in
     absurd (let w : ⊥ = omega arith in w)
 some_there (x ∷ l) c e = omega arith
 
-module _ (l : List ℕ) (c : Card) (top : top_of l ≡ Is c) where
+module _ (l : List ℕ) (c : Card) (top : top_of l ≡ Some c) where
   abbrev last : ℕ
   last = get_or l (length l - 1) 0
 
@@ -67,30 +66,30 @@ module _ (l : List ℕ) (c : Card) (top : top_of l ≡ Is c) where
 -- ---- of a record
 
 module _ (s n : ℕ) where
-  pub no_pile_top : n ≡ 0 → Empty ≡ top_of (pile s n)
+  pub no_pile_top : n ≡ 0 → None ≡ top_of (pile s n)
   unfolding pile
   no_pile_top e = sym (top_none (listed n (λ v. (v + 1) * 16 + s)) (length-listed (λ v. (v + 1) * 16 + s) n ∙ e))
 
-  pub a_pile_top : s < 4 → (n ≡ 0 → ⊥) → {t : Suit} → t ≡ suit_at s → Is (record { suit = t; value = n }) ≡ top_of (pile s n)
+  pub a_pile_top : s < 4 → (n ≡ 0 → ⊥) → {t : Suit} → t ≡ suit_at s → Some (record { suit = t; value = n }) ≡ top_of (pile s n)
   unfolding pile card_of
   a_pile_top h d e =
       let g : ℕ → ℕ = λ v. (v + 1) * 16 + s in
       sym
       (top_some (listed n g) (n - 1) (let l = length-listed g n in omega arith)
-      ∙ ap (λ (x : ℕ). Is (card_of x)) (get_or-listed g n (n - 1) 0 (omega arith))
-      ∙ ap₂ (λ (k v : ℕ). Is (record { suit = suit_at k; value = v }))
+      ∙ ap (λ (x : ℕ). Some (card_of x)) (get_or-listed g n (n - 1) 0 (omega arith))
+      ∙ ap₂ (λ (k v : ℕ). Some (record { suit = suit_at k; value = v }))
       (let q : ((n - 1 + 1) * 16 + s) % 16 ≡ s = omega arith in q) (let q : ((n - 1 + 1) * 16 + s) / 16 ≡ n = omega arith in q)
-      ∙ ap (λ (k : Suit). Is (record { suit = k; value = n })) (sym e))
+      ∙ ap (λ (k : Suit). Some (record { suit = k; value = n })) (sym e))
 
 pub cell_top : (x : ℕ) → cell_of x ≡ top_of (held (x ∷ []))
 unfolding cell_of held top_of
 cell_top x = by_test (eqb x 255)
   where
-    by_test : (t : Bool) → cond t Empty (Is (card_of x)) ≡ top_of (cond t [] (x ∷ []))
+    by_test : (t : Bool) → cond t None (Some (card_of x)) ≡ top_of (cond t [] (x ∷ []))
     by_test true = refl
     by_test false = refl
 
-module _ {b : Board} (sound : Sound b) {r : Top} {p : Place} (i : ℕ) where
+module _ {b : Board} (sound : Sound b) {r : Option Card} {p : Place} (i : ℕ) where
   pub top_column : p ≡ column i → i < 8 → r ≡ top_of (column_at b.counts b.tableau i) → r ≡ top_of (there (shown b) p)
   top_column q h e = e ∙ ap top_of (shown_column b i h) ∙ ap (λ (k : Place). top_of (there (shown b) k)) (sym q)
 

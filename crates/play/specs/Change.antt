@@ -21,10 +21,6 @@ pub record Cleared (old new : List ℕ) (at n : ℕ) : Type 0 where
   pub below : (p : ℕ) → p < at → get_or new p 0 ≡ get_or old p 0
   pub above : (p : ℕ) → at + n ≤ p → get_or new p 0 ≡ get_or old p 0
 
--- two stretches of n places that share none
-pub record Apart (from to n : ℕ) : Type 0 where
-  pub never : (k j : ℕ) → k < n → j < n → from + k ≡ to + j → ⊥
-
 -- n places from `to` hold what stood from `from` on, the others what they held
 pub record Copied (old new : List ℕ) (from to n : ℕ) : Type 0 where
   pub long : length new ≡ length old

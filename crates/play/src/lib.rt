@@ -7,7 +7,7 @@ ghost use Rattle.card.specs.Suit.{suit_number};
 ghost use Rattle.board.specs.Record.{shown, laid, room, tableau_room};
 ghost use Rattle.board.specs.Inner.{GoodColumns, GoodPiles};
 ghost use Rattle.moves.specs.Play.{after_move};
-ghost use Rattle.play.specs.Change.{Becomes, Cleared, Apart, Copied, Lays, Drops, Doubles, Ready};
+ghost use Rattle.play.specs.Change.{Becomes, Cleared, Copied, Lays, Drops, Doubles, Ready};
 
 pub mod rule;
 
@@ -23,11 +23,9 @@ fn lay(counts: &mut [u8; 8], tableau: &mut [u8; CODES], i: usize, code: u8)
     requires code_value { is_card code ≡ true }
     ensures { Lays counts.old tableau.old counts.new tableau.new i code }
 {
-    let count = counts[i];
     let first = i * ROOM;
-    let at = first + base::wide(count);
-    tableau[at] = code;
-    counts[i] = count + 1;
+    tableau[first + usize::from(counts[i])] = code;
+    counts[i] += 1;
 }
 
 // Zero n places from `at`.
@@ -36,27 +34,17 @@ fn clear(tableau: &mut [u8; CODES], at: usize, n: usize)
     requires n_bound { at + n ≤ tableau_room }
     ensures { Cleared tableau.old tableau.new at n }
 {
-    let mut k = 0;
-    while k < n {
-        tableau[at + k] = 0;
-        k += 1;
-    }
+    tableau[at..at + n].fill(0);
 }
 
-// Copy n places to others, which share none with them.
+// Copy n places to others.
 fn copy(tableau: &mut [u8; CODES], from: usize, to: usize, n: usize)
     requires tableau_len { length tableau.old ≡ tableau_room }
     requires n_bound { from + n ≤ tableau_room }
     requires n_bound_2 { to + n ≤ tableau_room }
-    requires apart { Apart from to n }
     ensures { Copied tableau.old tableau.new from to n }
 {
-    let mut k = 0;
-    while k < n {
-        let code = tableau[from + k];
-        tableau[to + k] = code;
-        k += 1;
-    }
+    tableau.copy_within(from..from + n, to);
 }
 
 // The top n cards of a column are gone.
@@ -66,7 +54,7 @@ fn drop_top(counts: &mut [u8; 8], tableau: &mut [u8; CODES], i: usize, n: usize)
     requires n_bound { n ≤ get_or counts.old i 0 }
     ensures { Drops counts.old tableau.old counts.new tableau.new i n }
 {
-    let left = base::wide(counts[i]) - n;
+    let left = usize::from(counts[i]) - n;
     let first = i * ROOM;
     let at = first + left;
     clear(tableau, at, n);
@@ -89,10 +77,10 @@ fn put_run(
     requires n_bound_2 { get_or counts.old destination 0 + n ≤ room }
     ensures { Doubles counts.old tableau.old counts.new tableau.new source destination n }
 {
-    let deepest = base::wide(counts[source]) - n;
+    let deepest = usize::from(counts[source]) - n;
     let first = source * ROOM;
     let from = first + deepest;
-    let count = base::wide(counts[destination]);
+    let count = usize::from(counts[destination]);
     let start = destination * ROOM;
     let to = start + count;
     copy(tableau, from, to, n);
@@ -105,10 +93,7 @@ fn go_home(foundation: &mut [u8; 4], card: Card)
     requires { GoodPiles foundation.old }
     ensures { foundation.new ≡ set foundation.old (suit_number card.suit) (get_or foundation.old (suit_number card.suit) 0 + 1) }
 {
-    let suit = card.suit;
-    let s = base::wide(suit.number());
-    let n = foundation[s];
-    foundation[s] = n + 1;
+    foundation[usize::from(card.suit.number())] += 1;
 }
 
 // A suit's foundation with one card less.
@@ -117,9 +102,7 @@ fn leave_home(foundation: &mut [u8; 4], suit: Suit)
     requires bound { 1 ≤ get_or foundation.old (suit_number suit) 0 }
     ensures { foundation.new ≡ set foundation.old (suit_number suit) (get_or foundation.old (suit_number suit) 0 - 1) }
 {
-    let s = base::wide(suit.number());
-    let n = foundation[s];
-    foundation[s] = n - 1;
+    foundation[usize::from(suit.number())] -= 1;
 }
 
 // A move that is known to be allowed, played on a board that lies in four arrays.

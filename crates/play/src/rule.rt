@@ -6,7 +6,7 @@ ghost use Rattle.card.specs.Card.{is_card};
 ghost use Rattle.board.specs.Table.{pile};
 ghost use Rattle.board.specs.Verdict.{fine};
 ghost use Rattle.board.specs.Record.{shown, laid};
-ghost use Rattle.board.specs.Refusal.{number_of, examined_told};
+ghost use Rattle.board.specs.Refusal.{number_of, answered};
 ghost use Rattle.board.specs.Inner.{GoodPiles, Sound};
 ghost use Rattle.questions.specs.Questions.{top_of};
 ghost use Rattle.moves.specs.Move.{from, to, count, is_place, sayable};
@@ -15,24 +15,23 @@ ghost use Rattle.moves.specs.Play.{there, elsewhere, within_limit};
 ghost use Rattle.moves.specs.Causes.{ruling};
 ghost use Rattle.moves.specs.Inner.{landing};
 
-use board::{CODES, Examined, ROOM, Refusal};
+use board::{CODES, ROOM, Refusal};
 use card::Card;
 use moves::{Move, Place};
-use questions::Top;
 
 // The top of a foundation.
-pub fn home_at(foundation: &[u8; 4], i: usize) -> Top
+pub fn home_at(foundation: &[u8; 4], i: usize) -> Option<Card>
     requires good_piles { GoodPiles foundation.now }
     requires i_bound { i < 4 }
     ensures { result ≡ top_of (pile i (get_or foundation.now i 0)) }
 {
     let value = foundation[i];
     if value == 0 {
-        return Top::Empty;
+        return None;
     }
     let s = i as u8;
     let suit = card::suit_at(s);
-    Top::Is(Card { suit, value })
+    Some(Card { suit, value })
 }
 
 // The last card at a place.
@@ -42,7 +41,7 @@ fn top_there<'a>(
     counts: &'a [u8; 8],
     tableau: &'a [u8; CODES],
     place: Place,
-) -> Top
+) -> Option<Card>
     requires sound { Sound (laid cells.now foundation.now counts.now tableau.now) }
     requires place_value { is_place place ≡ true }
     ensures { result ≡ top_of (there (shown (laid cells.now foundation.now counts.now tableau.now)) place) }
@@ -55,13 +54,13 @@ fn top_there<'a>(
 }
 
 // A test that is passed, or why not.
-fn ruled(ok: bool, why: Refusal) -> Examined
-    ensures { examined_told result ≡ unless ok (number_of why) fine }
+fn ruled(ok: bool, why: Refusal) -> Result<(), Refusal>
+    ensures { answered result ≡ unless ok (number_of why) fine }
 {
     if ok {
-        return Examined::WellFormed;
+        return Ok(());
     }
-    Examined::Refused(why)
+    Err(why)
 }
 
 // The place takes a card: else 38, 39 or 40.
@@ -72,11 +71,11 @@ fn put_there<'a>(
     tableau: &'a [u8; CODES],
     place: Place,
     code: u8,
-) -> Examined
+) -> Result<(), Refusal>
     requires sound { Sound (laid cells.now foundation.now counts.now tableau.now) }
     requires place_value { is_place place ≡ true }
     requires code_value { is_card code ≡ true }
-    ensures { examined_told result ≡ landing (shown (laid cells.now foundation.now counts.now tableau.now)) place code }
+    ensures { answered result ≡ landing (shown (laid cells.now foundation.now counts.now tableau.now)) place code }
 {
     match place {
         Place::Column(i) => ruled(rules::fit_at(counts, tableau, i, code), Refusal::NoFit),
@@ -95,32 +94,32 @@ fn run_ruled<'a>(
     destination: usize,
     count: usize,
     card: Card,
-) -> Examined
+) -> Result<(), Refusal>
     requires sound { Sound (laid cells.now foundation.now counts.now tableau.now) }
     requires card_value { sayable (TableauToTableau source destination count card) ≡ true }
-    ensures { examined_told result ≡ ruling (shown (laid cells.now foundation.now counts.now tableau.now)) (TableauToTableau source destination count card) }
+    ensures { answered result ≡ ruling (shown (laid cells.now foundation.now counts.now tableau.now)) (TableauToTableau source destination count card) }
 {
     if source == destination {
-        return Examined::Refused(Refusal::OutOfRange);
+        return Err(Refusal::OutOfRange);
     }
-    let lie = base::wide(counts[source]);
+    let lie = usize::from(counts[source]);
     if lie == 0 {
-        return Examined::Refused(Refusal::SourceEmpty);
+        return Err(Refusal::SourceEmpty);
     }
     if lie < count {
-        return Examined::Refused(Refusal::TooMany);
+        return Err(Refusal::TooMany);
     }
     let first = source * ROOM;
     let deepest = first + (lie - count);
     let code = card::code_of(card);
     if tableau[deepest] != code {
-        return Examined::Refused(Refusal::OtherCard);
+        return Err(Refusal::OtherCard);
     }
     if rules::most_at(cells, counts, tableau, destination) < count {
-        return Examined::Refused(Refusal::OverLimit);
+        return Err(Refusal::OverLimit);
     }
     if rules::run_at(counts, tableau, source) < count {
-        return Examined::Refused(Refusal::NoRun);
+        return Err(Refusal::NoRun);
     }
     ruled(
         rules::fit_at(counts, tableau, destination, code),
@@ -135,20 +134,20 @@ fn one_ruled<'a>(
     counts: &'a [u8; 8],
     tableau: &'a [u8; CODES],
     m: Move,
-) -> Examined
+) -> Result<(), Refusal>
     requires sound { Sound (laid cells.now foundation.now counts.now tableau.now) }
     requires m_value { sayable m ≡ true }
     requires m_value_2 { count m ≡ 1 }
     requires m_value_3 { elsewhere (from m) (to m) ≡ true }
     requires m_value_4 { within_limit (shown (laid cells.now foundation.now counts.now tableau.now)) (from m) (to m) (count m) ≡ true }
-    ensures { examined_told result ≡ ruling (shown (laid cells.now foundation.now counts.now tableau.now)) m }
+    ensures { answered result ≡ ruling (shown (laid cells.now foundation.now counts.now tableau.now)) m }
 {
-    let Top::Is(top) = top_there(cells, foundation, counts, tableau, moves::source_of(m)) else {
-        return Examined::Refused(Refusal::SourceEmpty);
+    let Some(top) = top_there(cells, foundation, counts, tableau, moves::source_of(m)) else {
+        return Err(Refusal::SourceEmpty);
     };
     let code = card::code_of(moves::deepest_of(m));
     if card::code_of(top) != code {
-        return Examined::Refused(Refusal::OtherCard);
+        return Err(Refusal::OtherCard);
     }
     put_there(
         cells,
@@ -167,10 +166,10 @@ pub fn ruled_at<'a>(
     counts: &'a [u8; 8],
     tableau: &'a [u8; CODES],
     m: Move,
-) -> Examined
+) -> Result<(), Refusal>
     requires sound { Sound (laid cells.now foundation.now counts.now tableau.now) }
     requires m_value { sayable m ≡ true }
-    ensures { examined_told result ≡ ruling (shown (laid cells.now foundation.now counts.now tableau.now)) m }
+    ensures { answered result ≡ ruling (shown (laid cells.now foundation.now counts.now tableau.now)) m }
 {
     match m {
         Move::TableauToTableau {

@@ -19,7 +19,7 @@ use Rattle.features.specs.Features.{Bounded, features_of}
 use Rattle.features.specs.declared.Features.{Features}
 use Rattle.features.proofs.Bounds.{bounded}
 use Rattle.score.proofs.Signs.{sub_fits}
-use Rattle.priority.specs.Priority.{priority_adds, priority_takes, priority, priority_key, priority_on}
+use Rattle.priority.specs.Priority.{priority_adds, priority_takes, priority, priority_on}
 use Rattle.priority.proofs.Sizes.{priority_adds_most, priority-takes_most}
 
 module _ {b : Board} {m : Move} (r : Ready b m) {a : Board} (e : Becomes a (after_move (shown b) m)) where
@@ -41,12 +41,6 @@ priority_is t m {w} {f} {g} p q r a b =
     ap₂ sub_ℕ a b ∙ ap (λ (v : Way). sub_ℕ (priority_adds v f g) (priority_takes v f g)) p
     ∙ ap (λ (h : Features). sub_ℕ (priority_adds (way_of m) h g) (priority_takes (way_of m) h g)) q
     ∙ ap (λ (h : Features). sub_ℕ (priority_adds (way_of m) (features_of t) h) (priority_takes (way_of m) (features_of t) h)) r
-
-pub key_is : (t : Table) (m : Move) {w : Way} {f g : Features} {k : ℕ} → w ≡ way_of m → f ≡ features_of t → g ≡ features_of (after_move t m)
-    → k ≡ priority_key w f g → k ≡ priority_key (way_of m) (features_of t) (features_of (after_move t m))
-key_is t m {w} {f} {g} p q r a =
-    a ∙ ap (λ (v : Way). priority_key v f g) p ∙ ap (λ (h : Features). priority_key (way_of m) h g) q
-    ∙ ap (λ (h : Features). priority_key (way_of m) (features_of t) h) r
 
 -- as a signed word it fits
 pub priority_fits : {b : Board} {m : Move} → Ready b m → SFits w64 (priority_on (shown b) m)

@@ -2,23 +2,23 @@
 #![tactic(auto)]
 
 ghost use Rattle.std.specs.Prelude.{◌≡◌};
+ghost use Rattle.board.specs.Refusal.{answered};
 ghost use Rattle.board.specs.Record.{shown, laid};
 ghost use Rattle.board.specs.Inner.{Sound};
 ghost use Rattle.moves.specs.Record.{move_asked};
 ghost use Rattle.moves.specs.Play.{after_move};
 ghost use Rattle.play.specs.Change.{Ready};
-ghost use Rattle.score.specs.Asked.{score_told};
 ghost use Rattle.priority.specs.Asked.{priority_by, priority_asked};
 ghost use Rattle.generate.specs.Found.{way_of};
 ghost use Rattle.features.specs.Features.{Bounded, features_of};
 ghost use Rattle.priority.specs.Priority.{base_adds, base_takes, priority_adds, priority_takes, priority_key, priority_on};
 
 use board::verdict::inspect;
-use board::{Board, CODES, Examined, Refusal};
+use board::{Board, CODES, Refusal};
 use features::Features;
 use generate::Way;
-use moves::{Decoded, Move};
-use score::{ScoreAnswer, weights};
+use moves::Move;
+use score::weights;
 
 // The kind of a move.
 fn way_of(m: Move) -> Way
@@ -39,11 +39,9 @@ fn base_adds(way: Way) -> usize
 {
     match way {
         Way::ColumnToColumn => weights::PRIORITY_BASE_TABLEAU_TO_TABLEAU,
-        Way::ColumnToHome => weights::PRIORITY_BASE_TO_FOUNDATION,
-        Way::ColumnToCell => 0,
+        Way::ColumnToHome | Way::CellToHome => weights::PRIORITY_BASE_TO_FOUNDATION,
         Way::CellToColumn => weights::PRIORITY_BASE_FREE_TO_TABLEAU,
-        Way::CellToHome => weights::PRIORITY_BASE_TO_FOUNDATION,
-        Way::HomeToColumn => 0,
+        Way::ColumnToCell | Way::HomeToColumn => 0,
     }
 }
 
@@ -51,16 +49,14 @@ fn base_takes(way: Way) -> usize
     ensures { result ≡ base_takes way }
 {
     match way {
-        Way::ColumnToColumn => 0,
-        Way::ColumnToHome => 0,
         Way::ColumnToCell => weights::PRIORITY_BASE_TABLEAU_TO_FREE,
-        Way::CellToColumn => 0,
-        Way::CellToHome => 0,
         Way::HomeToColumn => weights::PRIORITY_BASE_FROM_FOUNDATION,
+        Way::ColumnToColumn | Way::ColumnToHome | Way::CellToColumn | Way::CellToHome => 0,
     }
 }
 
 // What adds to a priority.
+#[tactic(auto, using(crate::proofs::Sizes::base_adds_most))]
 fn priority_adds(way: Way, before: Features, after: Features) -> usize
     requires bounded { Bounded before }
     requires bounded_2 { Bounded after }
@@ -79,6 +75,7 @@ fn priority_adds(way: Way, before: Features, after: Features) -> usize
 }
 
 // What takes away from it.
+#[tactic(auto, using(crate::proofs::Sizes::base_takes_most))]
 fn priority_takes(way: Way, before: Features, after: Features) -> usize
     requires bounded { Bounded before }
     requires bounded_2 { Bounded after }
@@ -176,25 +173,21 @@ pub fn priority_at<'a>(
     counts: &'a [u8; 8],
     tableau: &'a [u8; CODES],
     bytes: &[u8],
-) -> ScoreAnswer
+) -> Result<i64, Refusal>
     requires { Sound (laid cells.now foundation.now counts.now tableau.now) }
-    ensures { score_told result ≡ priority_by (shown (laid cells.now foundation.now counts.now tableau.now)) (move_asked bytes.now) }
+    ensures { answered result ≡ priority_by (shown (laid cells.now foundation.now counts.now tableau.now)) (move_asked bytes.now) }
 {
-    let Decoded::Is(m) = moves::decode(bytes) else {
-        return ScoreAnswer::Refused(Refusal::OutOfRange);
+    let Some(m) = moves::decode(bytes) else {
+        return Err(Refusal::OutOfRange);
     };
-    if let Examined::Refused(why) = play::rule::ruled_at(cells, foundation, counts, tableau, m) {
-        return ScoreAnswer::Refused(why);
-    }
-    ScoreAnswer::Score(local_priority(cells, foundation, counts, tableau, m))
+    play::rule::ruled_at(cells, foundation, counts, tableau, m)?;
+    Ok(local_priority(cells, foundation, counts, tableau, m))
 }
 
 // 12 to 15, 30 and 33 to 40 as one move is refused, or the local priority of a move.
-pub fn priority_of(b: Board, bytes: &[u8]) -> ScoreAnswer
-    ensures { score_told result ≡ priority_asked b bytes.now }
+pub fn priority_of(b: Board, bytes: &[u8]) -> Result<i64, Refusal>
+    ensures { answered result ≡ priority_asked b bytes.now }
 {
-    if let Examined::Refused(why) = inspect(&b.cells, &b.foundation, &b.counts, &b.tableau) {
-        return ScoreAnswer::Refused(why);
-    }
+    inspect(&b.cells, &b.foundation, &b.counts, &b.tableau)?;
     priority_at(&b.cells, &b.foundation, &b.counts, &b.tableau, bytes)
 }

@@ -1,4 +1,5 @@
 -- The plain questions: the refusals of a record first, and what the places say of the answers.
+use Rattle.std.specs.Prelude.{Err, Ok, Some, Result, None}
 use mathlib.Core.Path.{◌≡◌, refl, sym, ap, ◌∙◌}
 use mathlib.Core.Bool.{cond}
 use mathlib.Core.List.{List, [], ◌∷◌}
@@ -14,27 +15,29 @@ use Rattle.base.proofs.Words.{get_or-listed}
 use Rattle.base.proofs.Sums.{sum_same}
 use Rattle.board.specs.Verdict.{Verdict, fine, after}
 use Rattle.board.specs.Record.{column_at, shown, room}
-use Rattle.board.specs.Refusal.{number_of, examined_told}
+use Rattle.board.specs.Refusal.{number_of, answered}
 use Rattle.questions.specs.Questions.{top_of, empty_cells, empty_columns}
 use Rattle.board.specs.Inner.{GoodColumns}
 use Rattle.board.specs.declared.Board.{Board}
-use Rattle.questions.specs.declared.Top.TheVariants.{Is, Empty}
 use Rattle.board.specs.declared.Refusal.{Refusal}
-use Rattle.board.specs.declared.Examined.{Examined}
-use Rattle.board.specs.declared.Examined.TheVariants.{WellFormed, Refused}
+use Rattle.std.specs.Result.{IsErrAnd}
+use Rattle.std.proofs.lemmas.Result.{err_from_is_err_and}
 use Rattle.board.proofs.Soundness.{column_length, column_code}
 
 -- ---- the verdict decides
 
-module _ {A : Type 0} {v : Verdict} {r : Examined} (a : Answer A) (e : examined_told r ≡ v) where
-  pub after_no : {why : Refusal} → r ≡ Refused why → refused (number_of why) ≡ after v a
-  after_no q = ap (λ (w : Verdict). after w a) (ap examined_told (sym q) ∙ e)
+module _ {A : Type 0} {v : Verdict} {r : Result (Unit {0}) Refusal} (a : Answer A) (e : answered r ≡ v) where
+  pub after_no : {why : Refusal} → r ≡ Err why → refused (number_of why) ≡ after v a
+  after_no q = ap (λ (w : Verdict). after w a) (ap answered (sym q) ∙ e)
 
-  pub after_yes : r ≡ WellFormed → after v a ≡ a
-  after_yes q = ap (λ (w : Verdict). after w a) (sym e ∙ ap examined_told q)
+  pub after_err : {why : Refusal} (q : Result A Refusal) → r ≡ Err why → IsErrAnd q (λ e. e ≡ why) → answered q ≡ after v a
+  after_err q e h = let p = err_from_is_err_and q h in rw (p.1, p.2) (after_no e)
 
-pub verdict_fine : {v : Verdict} {r : Examined} → examined_told r ≡ v → r ≡ WellFormed → v ≡ fine
-verdict_fine e q = sym e ∙ ap examined_told q
+  pub after_yes : r ≡ Ok tt → after v a ≡ a
+  after_yes q = ap (λ (w : Verdict). after w a) (sym e ∙ ap answered q)
+
+pub verdict_fine : {v : Verdict} {r : Result (Unit {0}) Refusal} → answered r ≡ v → r ≡ Ok tt → v ≡ fine
+verdict_fine e q = sym e ∙ ap answered q
 
 -- ---- a place that is none is 30
 
@@ -66,12 +69,12 @@ module _ (b : Board) where
 
 -- ---- the top of a column
 
-pub top_none : (l : List ℕ) → length l ≡ 0 → top_of l ≡ Empty
+pub top_none : (l : List ℕ) → length l ≡ 0 → top_of l ≡ None
 unfolding top_of
 top_none [] e = refl
 top_none (x ∷ l) e = absurd (let z : ⊥ = omega arith in z)
 
-pub top_some : (l : List ℕ) (n : ℕ) → length l ≡ suc n → top_of l ≡ Is (card_of (get_or l n 0))
+pub top_some : (l : List ℕ) (n : ℕ) → length l ≡ suc n → top_of l ≡ Some (card_of (get_or l n 0))
 unfolding top_of
 top_some [] n e = absurd (let z : ⊥ = omega arith in z)
 top_some (x ∷ []) zero e = refl
@@ -80,14 +83,14 @@ top_some (x ∷ y ∷ l) zero e = absurd (let z : ⊥ = omega arith in z)
 top_some (x ∷ y ∷ l) (suc n) e = top_some (y ∷ l) n (omega arith)
 
 module _ {counts tableau : List ℕ} (g : GoodColumns counts tableau) (i w : ℕ) (h : i < 8) (e : w ≡ get_or counts i 0) where
-  pub no_top : w ≡ 0 → Empty ≡ top_of (column_at counts tableau i)
+  pub no_top : w ≡ 0 → None ≡ top_of (column_at counts tableau i)
   no_top q = sym (top_none (column_at counts tableau i) (column_length g i h ∙ sym e ∙ q))
 
-  pub a_top : (w ≡ 0 → ⊥) → Is (card_of (get_or tableau (i * room + (w - 1)) 0)) ≡ top_of (column_at counts tableau i)
+  pub a_top : (w ≡ 0 → ⊥) → Some (card_of (get_or tableau (i * room + (w - 1)) 0)) ≡ top_of (column_at counts tableau i)
   a_top q =
       sym
       (top_some (column_at counts tableau i) (w - 1) (let n = column_length g i h in omega arith)
-      ∙ ap (λ (x : ℕ). Is (card_of x)) (column_code counts tableau i (w - 1) (omega arith)))
+      ∙ ap (λ (x : ℕ). Some (card_of x)) (column_code counts tableau i (w - 1) (omega arith)))
 
 -- ---- counts
 

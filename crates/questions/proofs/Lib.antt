@@ -1,4 +1,3 @@
 -- Laws for the crates above.
 pub mod Totals
 pub mod Asking
-pub mod Unique

@@ -1,3 +1,2 @@
 -- Read these in this order.
 pub mod Questions
-pub mod Told

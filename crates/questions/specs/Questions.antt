@@ -1,23 +1,22 @@
 -- The plain questions about a board. Each is refused with 12 to 15 if the board is not fine, then with 30 for a place that is none.
-use Rattle.std.specs.Prelude.{Bool, cond, List, [], ◌∷◌, ℕ, length, get_or, eqb, ltb}
+use Rattle.card.specs.declared.Card.{Card}
+use Rattle.std.specs.Prelude.{Bool, cond, List, [], ◌∷◌, ℕ, length, get_or, eqb, ltb, None, Some, Option}
 use Rattle.base.specs.Words.{every, sum}
 use Rattle.base.specs.Answer.{Answer, given, unless}
 use Rattle.card.specs.Card.{card_of}
 use Rattle.board.specs.Verdict.{after}
 use Rattle.board.specs.Record.{examined, shown}
 use Rattle.board.specs.declared.Board.{Board}
-use Rattle.questions.specs.declared.Top.{Top}
-use Rattle.questions.specs.declared.Top.TheVariants.{Is, Empty}
 
 -- the top of a column is its last card
-unfoldable pub top_of : List ℕ → Top
-top_of [] = Empty
-top_of (x ∷ []) = Is (card_of x)
+unfoldable pub top_of : List ℕ → Option Card
+top_of [] = None
+top_of (x ∷ []) = Some (card_of x)
 top_of (x ∷ y ∷ l) = top_of (y ∷ l)
 
 -- what a cell shows
-unfoldable pub cell_of : ℕ → Top
-cell_of x = cond (eqb x 255) Empty (Is (card_of x))
+unfoldable pub cell_of : ℕ → Option Card
+cell_of x = cond (eqb x 255) None (Some (card_of x))
 
 -- how many cards are home
 unfoldable pub home_count : List ℕ → ℕ
@@ -33,10 +32,10 @@ empty_columns columns = sum 8 (λ i. cond (eqb (length (get_or columns i [])) 0)
 unfoldable pub won_on : List ℕ → Bool
 won_on foundation = every 4 (λ s. eqb (get_or foundation s 0) 13)
 
-unfoldable pub top_asked : Board → ℕ → Answer Top
+unfoldable pub top_asked : Board → ℕ → Answer (Option Card)
 top_asked b i = after (examined b) (unless (ltb i 8) 30 (given (top_of (get_or (shown b).columns i []))))
 
-unfoldable pub cell_asked : Board → ℕ → Answer Top
+unfoldable pub cell_asked : Board → ℕ → Answer (Option Card)
 cell_asked b i = after (examined b) (unless (ltb i 4) 30 (given (cell_of (get_or (shown b).cells i 0))))
 
 unfoldable pub foundation_asked : Board → ℕ → Answer ℕ

@@ -15,8 +15,7 @@ use Rattle.notation.specs.declared.Due.{Due}
 use Rattle.notation.specs.declared.Due.TheVariants.{Source}
 use Rattle.notation.specs.declared.Step.{Step}
 use Rattle.notation.specs.declared.Step.TheVariants.{On, Ends, Wrong}
-use Rattle.reading.specs.declared.Cut.{Cut}
-use Rattle.reading.specs.declared.Cut.TheVariants as cut
+use Rattle.std.specs.Prelude.{Option, Some, None}
 
 -- ---- what is left of a line
 
@@ -87,19 +86,19 @@ module _ {text : List ℕ} {at : ℕ} {due : Due} {i : ℕ} (c : Cutting text at
           (sym (ap (read_from Source (i + 1)) (ap (λ (n : ℕ). drop n text) e ∙ drop-length text)) ∙ r)
       more ks r (no d) = left_some text (i + 1) (omega arith) ∙ r
 
-  at_end : length text ≤ i → left_in text at ≡ ending due i
+  at_end : length text ≤ i → left_in text at ≡ ending due (length text)
   unfolding read_from
   at_end h =
       let u = c.upto in
       c.same
-      ∙ ap (λ (n : ℕ). read_from due i (drop n text)) (let q : i ≡ length text = omega arith in q)
-      ∙ ap (read_from due i) (drop-length text)
+      ∙ ap (λ (n : ℕ). read_from due n (drop n text)) (let q : i ≡ length text = omega arith in q)
+      ∙ ap (read_from due (length text)) (drop-length text)
 
-  pub cutting_end : length text ≤ i → {r : Cut} → EndCuts due i r → Cuts text at r
+  pub cutting_end : length text ≤ i → {r : Option (Jot × ℕ)} → EndCuts due (length text) r → Cuts text at r
   cutting_end h {r} t = record { told = by_cut r t.told }
     where
-      by_cut : (r : Cut) → EndOrNot due i r → CutOrNot text at r
-      by_cut (cut.Is j next) e =
+      by_cut : (r : Option (Jot × ℕ)) → EndOrNot due (length text) r → CutOrNot text at r
+      by_cut (Some (j, next)) e =
           let b = c.begins in
           let u = c.upto in
           let n = e.0 in
@@ -110,13 +109,13 @@ module _ {text : List ℕ} {at : ℕ} {due : Due} {i : ℕ} (c : Cutting text at
                 let k = sym (at_end h ∙ e.1) ∙ q in
                 ([], (let z : js ≡ j ∷ [] = cc in z, left_none text next (omega arith)));
           }
-      by_cut cut.Wrong e = record { never = λ js q. no_line i js (sym (at_end h ∙ e) ∙ q) }
+      by_cut None e = record { never = λ js q. no_line (length text) js (sym (at_end h ∙ e) ∙ q) }
 
 -- ---- by what was answered
 
-module _ {text : List ℕ} {at : ℕ} {r : Cut} (t : Cuts text at r) where
-  pub cut_is : {j : Jot} {next : ℕ} → r ≡ cut.Is j next → CutAt text at j next
+module _ {text : List ℕ} {at : ℕ} {r : Option (Jot × ℕ)} (t : Cuts text at r) where
+  pub cut_is : {j : Jot} {next : ℕ} → r ≡ Some (j, next) → CutAt text at j next
   cut_is e = subst (CutOrNot text at) e t.told
 
-  pub cut_no : r ≡ cut.Wrong → NoLine text at
+  pub cut_no : r ≡ None → NoLine text at
   cut_no e = subst (CutOrNot text at) e t.told

@@ -7,6 +7,7 @@ use native.Mathlib.Numerals.{add-one}
 use native.Mathlib.Omega.{arith}
 use borrow.Author.Tests.{le-leb}
 use lib.ListN.{length}
+use Rattle.std.specs.Prelude.{Ok, Err}
 use Rattle.base.specs.Answer.{Answer, refused, unless}
 use Rattle.board.specs.Table.{Table}
 use Rattle.board.specs.Verdict.{fine}
@@ -26,7 +27,7 @@ use Rattle.sense.specs.Outcome.{Outcome, gives, refuses_at, checked, most_moves,
 use Rattle.reading.specs.Lines.{ruled, first, read_on, moves_from, read_by, line_read}
 use Rattle.reading.specs.Inner.{Took, left_in, CutAt, NoLine, Few, LeftBy, ReadTo}
 use Rattle.notation.specs.declared.Jot.{Jot}
-use Rattle.sense.specs.declared.LineAnswer.TheVariants as line
+use Rattle.sense.specs.declared.LineError.TheVariants.{At}
 use Rattle.notation.proofs.Stopping.{form_well}
 use Rattle.reading.proofs.Cutting.{left_start, left_none}
 
@@ -142,14 +143,14 @@ module _ {t : Table} {text old : List ℕ} {b : Board} {now : List ℕ} {n at : 
               ∙ ap₂ (λ (u : Table) (i : ℕ). before (p.done ++ (k.move ∷ [])) (moves_from u i later)) (sym k.shows) (sym (add-one n));
         }
 
-    pub passing_stop : {why : Refusal} {new : List ℕ} → ruled (shown b) (meant (shown b) j) ≡ refused (number_of why) → ReadTo (line_read t text) old new (line.RefusedAt why n)
+    pub passing_stop : {why : Refusal} {new : List ℕ} → ruled (shown b) (meant (shown b) j) ≡ refused (number_of why) → ReadTo (line_read t text) old new (Err (At why n))
     passing_stop {why} {new} e =
         let q = unfolded
         ∙ ap (λ (a : Answer Move). before p.done (read_on n a (λ m. moves_from (after_move (shown b) m) (suc n) later))) e
         ∙ before_stop p.done (number_of why) n in
         record { told = sym (ap counted q); left = subst (λ (o : Outcome (List Move)). LeftBy o old new) (sym q) tt }
 
-  pub passing_end : length text ≤ at → ReadTo (line_read t text) old now (line.Count n)
+  pub passing_end : length text ≤ at → ReadTo (line_read t text) old now (Ok n)
   unfolding moves_from
   passing_end h =
       let r : jots [] ≡ jots p.rest = sym (left_none text at h) ∙ p.left in

@@ -1,4 +1,5 @@
 -- A written move taken: refused, or played with its record written.
+use Rattle.std.specs.Prelude.{Err, Result, Ok}
 use mathlib.Core.Path.{◌≡◌, refl, sym, ap, ◌∙◌, subst}
 use mathlib.Core.Bool.{true}
 use mathlib.Core.List.{List, [], ◌∷◌}
@@ -10,8 +11,6 @@ use Rattle.board.specs.Inner.{Sound}
 use Rattle.board.specs.declared.Board.{Board}
 use Rattle.board.specs.Refusal.{number_of}
 use Rattle.board.specs.declared.Refusal.{Refusal}
-use Rattle.board.specs.declared.Examined.{Examined}
-use Rattle.board.specs.declared.Examined.TheVariants.{WellFormed, Refused}
 use Rattle.board.proofs.Fair.{shows_fair}
 use Rattle.moves.specs.Move.{sayable}
 use Rattle.moves.specs.Play.{after_move}
@@ -29,9 +28,6 @@ use Rattle.notation.specs.declared.Jot.{Jot}
 use Rattle.sense.proofs.Meaning.{meant_said}
 
 module _ {b : Board} (s : Sound b) (m : Move) where
-  pub make_no : {n : ℕ} → ruling (shown b) m ≡ refused n → ruled (shown b) (given m) ≡ refused n
-  make_no e = ap (λ (v : Verdict). after v (given m)) e
-
   pub make_yes : sayable m ≡ true → ruling (shown b) m ≡ fine → {c : Board} → Becomes c (after_move (shown b) m)
       → {old new : List ℕ} {n r : ℕ} → Adds old new n r (m ∷ []) → Took b c (given m) old new n
   make_yes said e {c} g a =
@@ -46,12 +42,9 @@ module _ {b : Board} (s : Sound b) (m : Move) where
   pub take_said : (j : Jot) → WellMade j → {a : Answer Move} → a ≡ meant (shown b) j → a ≡ given m → sayable m ≡ true
   take_said j w e f = (meant_said (shown b) j (shows_fair s) w (sym e ∙ f)).said
 
-pub takes_as : {b c : Board} {old new : List ℕ} {n : ℕ} {r : Examined} {a d : Answer Move} → a ≡ d → Takes b c a old new n r → Takes b c d old new n r
-takes_as {b} {c} {old} {new} {n} {r} e t = subst (λ (x : Answer Move). Takes b c x old new n r) e t
-
-module _ {b c : Board} {old new : List ℕ} {n : ℕ} {r : Examined} {a : Answer Move} (t : Takes b c a old new n r) where
-  pub took_yes : r ≡ WellFormed → Took b c a old new n
+module _ {b c : Board} {old new : List ℕ} {n : ℕ} {r : Result (Unit {0}) Refusal} {a : Answer Move} (t : Takes b c a old new n r) where
+  pub took_yes : r ≡ Ok tt → Took b c a old new n
   took_yes e = subst (TookOrNot b c a old new n) e t.told
 
-  pub took_no : {why : Refusal} → r ≡ Refused why → ruled (shown b) a ≡ refused (number_of why)
+  pub took_no : {why : Refusal} → r ≡ Err why → ruled (shown b) a ≡ refused (number_of why)
   took_no e = subst (TookOrNot b c a old new n) e t.told

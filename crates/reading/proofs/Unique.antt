@@ -2,12 +2,13 @@
 use mathlib.Core.Path.{◌≡◌}
 use mathlib.Core.List.{List}
 use Prim.Native.Nat.{ℕ}
+use Rattle.std.specs.Prelude.{Result}
 use Rattle.base.proofs.Unique.{once}
 use Rattle.board.specs.declared.Board.{Board}
-use Rattle.sense.specs.declared.LineAnswer.{LineAnswer}
+use Rattle.sense.specs.declared.LineError.{LineError}
 use Rattle.sense.proofs.Unique.{line_once}
 use Rattle.reading.specs.Asked.{Reads}
 
 -- of `read_line`
-pub reads_once : {b : Board} {text old new new' : List ℕ} {r r' : LineAnswer} → Reads b text old new r → Reads b text old new' r' → (new ≡ new') × (r ≡ r')
+pub reads_once : {b : Board} {text old new new' : List ℕ} {r r' : Result ℕ LineError} → Reads b text old new r → Reads b text old new' r' → (new ≡ new') × (r ≡ r')
 reads_once p q = (once p.room q.room, line_once p.told q.told)

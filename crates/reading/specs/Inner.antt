@@ -1,12 +1,11 @@
 -- What the inner functions of reading hand each other.
-use Rattle.std.specs.Prelude.{◌≡◌, cond, List, [], ◌∷◌, ℕ, ◌+◌, ◌<◌, ◌≤◌, ltb, length, drop}
+use Rattle.board.specs.declared.Refusal.{Refusal}
+use Rattle.std.specs.Prelude.{◌≡◌, cond, List, [], ◌∷◌, ℕ, ◌+◌, ◌<◌, ◌≤◌, ltb, length, drop, Option, Some, None, Result, Err, Ok}
 use Rattle.base.specs.Answer.{Answer, given, refused}
 use Rattle.board.specs.Record.{shown}
 use Rattle.board.specs.Refusal.{number_of}
 use Rattle.board.specs.Inner.{Sound}
 use Rattle.board.specs.declared.Board.{Board}
-use Rattle.board.specs.declared.Examined.{Examined}
-use Rattle.board.specs.declared.Examined.TheVariants.{WellFormed, Refused}
 use Rattle.moves.specs.Play.{after_move}
 use Rattle.moves.specs.Written.{written, Adds}
 use Rattle.moves.specs.declared.Move.{Move}
@@ -17,10 +16,7 @@ use Rattle.reading.specs.Asked.{list_after}
 use Rattle.notation.specs.declared.Jot.{Jot}
 use Rattle.notation.specs.declared.Due.{Due}
 use Rattle.notation.specs.declared.Due.TheVariants.{Source}
-use Rattle.sense.specs.declared.LineAnswer.{LineAnswer}
-use Rattle.sense.specs.declared.LineAnswer.TheVariants as line
-use Rattle.reading.specs.declared.Cut.{Cut}
-use Rattle.reading.specs.declared.Cut.TheVariants as cut
+use Rattle.sense.specs.declared.LineError.{LineError}
 
 -- ---- a written move on a board
 
@@ -33,11 +29,11 @@ pub record Took (b c : Board) (a : Answer Move) (old new : List ℕ) (n : ℕ) :
   pub adds : Adds old new n (n + 1) (move ∷ [])
 
 -- it is, or it is refused
-abbrev pub TookOrNot : Board → Board → Answer Move → List ℕ → List ℕ → ℕ → Examined → Type 0
-TookOrNot b c a old new n WellFormed = Took b c a old new n
-TookOrNot b c a old new n (Refused why) = ruled (shown b) a ≡ refused (number_of why)
+abbrev pub TookOrNot : Board → Board → Answer Move → List ℕ → List ℕ → ℕ → Result (Unit {0}) Refusal → Type 0
+TookOrNot b c a old new n (Ok u) = Took b c a old new n
+TookOrNot b c a old new n (Err why) = ruled (shown b) a ≡ refused (number_of why)
 
-pub record Takes (b c : Board) (a : Answer Move) (old new : List ℕ) (n : ℕ) (r : Examined) : Type 0 where
+pub record Takes (b c : Board) (a : Answer Move) (old new : List ℕ) (n : ℕ) (r : Result (Unit {0}) Refusal) : Type 0 where
   pub told : TookOrNot b c a old new n r
 
 -- ---- the written moves of a text, one after the other
@@ -56,19 +52,19 @@ pub record CutAt (text : List ℕ) (at : ℕ) (j : Jot) (next : ℕ) : Type 0 wh
 pub record NoLine (text : List ℕ) (at : ℕ) : Type 0 where
   pub never : (js : List Jot) → left_in text at ≡ jots js → ⊥
 
-abbrev pub CutOrNot : List ℕ → ℕ → Cut → Type 0
-CutOrNot text at (cut.Is j next) = CutAt text at j next
-CutOrNot text at cut.Wrong = NoLine text at
+abbrev pub CutOrNot : List ℕ → ℕ → Option (Jot × ℕ) → Type 0
+CutOrNot text at (Some (j, next)) = CutAt text at j next
+CutOrNot text at None = NoLine text at
 
-pub record Cuts (text : List ℕ) (at : ℕ) (r : Cut) : Type 0 where
+pub record Cuts (text : List ℕ) (at : ℕ) (r : Option (Jot × ℕ)) : Type 0 where
   pub told : CutOrNot text at r
 
 -- the text ends where something is due
-abbrev pub EndOrNot : Due → ℕ → Cut → Type 0
-EndOrNot d end (cut.Is j next) = (next ≡ end) × (ending d end ≡ jots (j ∷ []))
-EndOrNot d end cut.Wrong = ending d end ≡ wrong end
+abbrev pub EndOrNot : Due → ℕ → Option (Jot × ℕ) → Type 0
+EndOrNot d end (Some (j, next)) = (next ≡ end) × (ending d end ≡ jots (j ∷ []))
+EndOrNot d end None = ending d end ≡ wrong end
 
-pub record EndCuts (d : Due) (end : ℕ) (r : Cut) : Type 0 where
+pub record EndCuts (d : Due) (end : ℕ) (r : Option (Jot × ℕ)) : Type 0 where
   pub told : EndOrNot d end r
 
 -- ---- a whole line
@@ -85,17 +81,11 @@ LeftBy (refuses n) old new = Unit {0}
 LeftBy (refuses_at n p) old new = Unit {0}
 
 -- the answer and the records of a line
-pub record ReadTo (o : Outcome (List Move)) (old new : List ℕ) (r : LineAnswer) : Type 0 where
+pub record ReadTo (o : Outcome (List Move)) (old new : List ℕ) (r : Result ℕ LineError) : Type 0 where
   pub told : line_told r ≡ counted o
   pub left : LeftBy o old new
 
--- how many records go into lent room: none by a refusal
-abbrev pub kept : LineAnswer → ℕ
-kept (line.Count n) = n
-kept (line.Refused why) = 0
-kept (line.RefusedAt why p) = 0
-
 -- the answer, and the records in lent room; a refusal changes nothing
-pub record ReadInto (o : Outcome (List Move)) (old new : List ℕ) (r : LineAnswer) : Type 0 where
+pub record ReadInto (o : Outcome (List Move)) (old new : List ℕ) (r : Result ℕ LineError) : Type 0 where
   pub told : line_told r ≡ counted o
   pub room : new ≡ list_after o old

@@ -1,4 +1,5 @@
 -- A replayed list keeps the 52 cards and a well-formed board; and replaying a list and then another is replaying both.
+use Rattle.std.specs.Prelude.{Ok}
 use mathlib.Core.Path.{◌≡◌, refl, sym, ap, ◌∙◌, subst}
 use mathlib.Core.Bool.{Bool, true, false}
 use mathlib.Core.List.{List, ◌++◌}
@@ -16,7 +17,6 @@ use Rattle.board.specs.Table.{cards_on}
 use Rattle.board.specs.Record.{shown, board_of}
 use Rattle.board.specs.Inner.{Sound}
 use Rattle.board.specs.declared.Board.{Board}
-use Rattle.board.specs.declared.Examined.TheVariants.{WellFormed}
 use Rattle.board.proofs.Soundness.{sound_fine}
 use Rattle.moves.specs.Move.{sayable}
 use Rattle.moves.specs.Record.{move_asked}
@@ -90,8 +90,8 @@ line-keeps (suc n) l e f b s =
 module _ {b : Board} (s : Sound b) where
   line_or_not : (l : List ℕ) → Bytes l → (ok : Bool) → is_line l ≡ ok → Kept b (replayed b l).board
   line_or_not l f true y =
-      subst (λ (e : Ending). Kept b e.board) (sym (good_line b l {r = WellFormed} (sym (sound_fine s)) refl y)) (line-keeps (length l / 5) l refl f b s)
-  line_or_not l f false n = subst (λ (e : Ending). Kept b e.board) (sym (no_line b l {r = WellFormed} (sym (sound_fine s)) refl n)) (none_kept s)
+      subst (λ (e : Ending). Kept b e.board) (sym (good_line b l {r = (Ok tt)} (sym (sound_fine s)) refl y)) (line-keeps (length l / 5) l refl f b s)
+  line_or_not l f false n = subst (λ (e : Ending). Kept b e.board) (sym (no_line b l {r = (Ok tt)} (sym (sound_fine s)) refl n)) (none_kept s)
 
   -- whatever list is replayed, and however it ends
   pub replay_keeps : (l : List ℕ) → Bytes l → Kept b (replayed b l).board
@@ -107,10 +107,10 @@ module _ {b : Board} (s : Sound b) where
       let lf = eqb-true (length l % 5) 0 (second (leb (length l) 1000) _ y) in
       let zy = leb-true (length (l ++ m)) 1000 (first (leb (length (l ++ m)) 1000) _ z) in
       let zf = eqb-true (length (l ++ m) % 5) 0 (second (leb (length (l ++ m)) 1000) _ z) in
-      let one = good_line b l {r = WellFormed} (sym (sound_fine s)) refl y in
+      let one = good_line b l {r = (Ok tt)} (sym (sound_fine s)) refl y in
       let end = line-keeps (length l / 5) l refl f b s in
-      let two = good_line (line_from b (records_in l)).board m {r = WellFormed} (sym (sound_fine end.sound)) refl (a_line m (omega arith) (omega arith)) in
-      good_line b (l ++ m) {r = WellFormed} (sym (sound_fine s)) refl z
+      let two = good_line (line_from b (records_in l)).board m {r = (Ok tt)} (sym (sound_fine end.sound)) refl (a_line m (omega arith) (omega arith)) in
+      good_line b (l ++ m) {r = (Ok tt)} (sym (sound_fine s)) refl z
       ∙ ap (line_from b) (records_append (length l / 5) l m (omega arith)) ∙ line-append (records_in l) (records_in m) b
       ∙ ap (λ (e : Ending). continued (line_from b (records_in l)).verdict (line_from b (records_in l)) e) (sym two)
       ∙ ap (λ (e : Ending). continued e.verdict e (replayed e.board m)) (sym one)

@@ -1,4 +1,5 @@
 -- A line is replayed record by record; a line after a line is their line together.
+use Rattle.std.specs.Prelude.{Err, Ok}
 use mathlib.Core.Path.{◌≡◌, refl, sym, ap, ap₂, ◌∙◌}
 use mathlib.Core.List.{List, [], ◌∷◌, ◌++◌}
 use Prim.Native.Nat.{ℕ, zero, suc, ◌+◌, ◌-◌, ◌*◌, ◌/◌, ◌%◌, ◌<◌, ◌≤◌}
@@ -13,7 +14,6 @@ use Rattle.board.specs.Refusal.{number_of}
 use Rattle.board.specs.Inner.{Sound}
 use Rattle.board.specs.declared.Board.{Board}
 use Rattle.board.specs.declared.Refusal.{Refusal}
-use Rattle.board.specs.declared.Examined.TheVariants.{WellFormed, Refused}
 use Rattle.replay.specs.Step.{stepped}
 use Rattle.replay.specs.Handed.{Ends}
 use Rattle.replay.specs.Line.{Ending, one_more, go_on, line_from, records_in, continued}
@@ -144,8 +144,8 @@ module _ (bytes : List ℕ) (whole : length bytes % 5 ≡ 0) (b : Board) where
 -- ---- what is handed back
 
 module _ {e : Ending} {n : ℕ} {d : Board} where
-  pub ends_no : {why : Refusal} → e ≡ record { verdict = refused (number_of why); moves = n; board = d } → Ends e (record { said = Refused why; moves = n; board = d })
+  pub ends_no : {why : Refusal} → e ≡ record { verdict = refused (number_of why); moves = n; board = d } → Ends e (record { said = Err why; moves = n; board = d })
   ends_no q = record { said = ap (λ (f : Ending). f.verdict) (sym q); moves = ap (λ (f : Ending). f.moves) (sym q); board = ap (λ (f : Ending). f.board) (sym q) }
 
-  pub ends_yes : e ≡ record { verdict = fine; moves = n; board = d } → Ends e (record { said = WellFormed; moves = n; board = d })
+  pub ends_yes : e ≡ record { verdict = fine; moves = n; board = d } → Ends e (record { said = (Ok tt); moves = n; board = d })
   ends_yes q = record { said = ap (λ (f : Ending). f.verdict) (sym q); moves = ap (λ (f : Ending). f.moves) (sym q); board = ap (λ (f : Ending). f.board) (sym q) }

@@ -1,64 +1,61 @@
 -- One move on a board: its answer, and the board after it is well formed again.
+use Rattle.std.specs.Prelude.{Err, Ok, Option, Some, None, Result}
 use mathlib.Core.Path.{◌≡◌, sym, ap, ◌∙◌}
 use mathlib.Core.Bool.{true}
 use mathlib.Core.List.{List}
 use Prim.Native.Nat.{ℕ}
 use native.Mathlib.Omega.{arith}
 use Rattle.base.specs.Words.{occurs}
-use Rattle.base.specs.Answer.{Answer, given, refused}
+use Rattle.base.specs.Answer.{Answer, given, refused, given_or}
 use Rattle.board.specs.Table.{Table, cards_on}
 use Rattle.board.specs.Verdict.{fine}
 use Rattle.board.specs.Record.{shown, board_of}
-use Rattle.board.specs.Refusal.{number_of, examined_told}
+use Rattle.board.specs.Refusal.{number_of, answered}
 use Rattle.board.specs.Inner.{Sound}
 use Rattle.board.specs.declared.Board.{Board}
 use Rattle.board.specs.declared.Refusal.{Refusal}
-use Rattle.board.specs.declared.Examined.TheVariants.{WellFormed, Refused}
 use Rattle.board.proofs.Records.{record_of_shown, shown_of_record}
 use Rattle.board.specs.Fair.{Fair}
 use Rattle.board.proofs.Fair.{shows_fair, fair_laid, fair_sound}
 use Rattle.moves.specs.Move.{sayable}
-use Rattle.moves.specs.Record.{move_asked, move_told}
+use Rattle.moves.specs.Record.{move_asked}
 use Rattle.moves.specs.Play.{after_move, allowed}
 use Rattle.moves.specs.Causes.{ruling, played}
 use Rattle.moves.specs.declared.Move.{Move}
-use Rattle.moves.specs.declared.Decoded.{Decoded}
-use Rattle.moves.specs.declared.Decoded.TheVariants.{Is, Impossible}
 use Rattle.moves.proofs.Allowing.{allowed-keeps}
 use Rattle.moves.proofs.Fairness.{fair_after}
 use Rattle.moves.proofs.Ruling.{played_yes, played_no}
 use Rattle.play.specs.Change.{Becomes}
 use Rattle.replay.specs.Step.{recorded, played_on, stepped}
 use Rattle.replay.specs.Handed.{verdict_of, board_or, Moves}
-use Rattle.replay.specs.declared.Moved.{Moved}
 
 -- ---- what is handed back
 
 module _ {b : Board} {a : Answer Board} where
-  pub moves_yes : {c : Board} → a ≡ given c → Moves b a (record { said = WellFormed; board = c })
+  pub moves_yes : {c : Board} → a ≡ given c → Moves b a (Ok tt) c
   moves_yes e = record { said = ap verdict_of (sym e); board = ap (board_or b) (sym e) }
 
-  pub moves_no : {why : Refusal} → a ≡ refused (number_of why) → Moves b a (record { said = Refused why; board = b })
+  pub moves_no : {why : Refusal} → a ≡ refused (number_of why) → Moves b a (Err why) b
   moves_no e = record { said = ap verdict_of (sym e); board = ap (board_or b) (sym e) }
 
 -- the answer under another name
-pub moves_as : {b : Board} {a d : Answer Board} {r : Moved} → a ≡ d → Moves b a r → Moves b d r
+pub moves_as : {b : Board} {a d : Answer Board} {r : Result (Unit {0}) Refusal} {c : Board} → a ≡ d → Moves b a r c → Moves b d r c
 moves_as {b} e m = record { said = m.said ∙ ap verdict_of e; board = m.board ∙ ap (board_or b) e }
 
 -- and what that says of the answer
 module _ {b : Board} where
-  pub said_yes : (a : Answer Board) {r : Moved} → Moves b a r → r.said ≡ WellFormed → a ≡ given r.board
+  pub said_yes : (a : Answer Board) {r : Result (Unit {0}) Refusal} {c : Board} → Moves b a r c → r ≡ Ok tt → a ≡ given c
   said_yes (given c) m e = ap (λ (d : Board). given d) (sym m.board)
   said_yes (refused n) m e =
-      let q : fine ≡ refused n = ap examined_told (sym e) ∙ m.said in
+      let q : fine ≡ refused n = ap answered (sym e) ∙ m.said in
       let z : ◌≡◌ {A = ℕ} 0 1 = cc in absurd (let w : ⊥ = omega arith in w)
 
-  pub said_no : (a : Answer Board) {r : Moved} {why : Refusal} → Moves b a r → r.said ≡ Refused why → (a ≡ refused (number_of why)) × (r.board ≡ b)
-  said_no (given c) {r} {why} m e =
-      let q : refused (number_of why) ≡ fine = ap examined_told (sym e) ∙ m.said in
+  pub said_no : (a : Answer Board) {r : Result (Unit {0}) Refusal} {c : Board} {why : Refusal} → Moves b a r c → r ≡ Err why → (a ≡ refused (number_of why)) × (c ≡ b)
+  said_no (given c) {why = why} m e =
+      let q : refused (number_of why) ≡ fine = ap answered (sym e) ∙ m.said in
       let z : ◌≡◌ {A = ℕ} 0 1 = cc in absurd (let w : ⊥ = omega arith in w)
-  said_no (refused n) {r} {why} m e =
-      let q : refused (number_of why) ≡ verdict_of (refused n) = ap examined_told (sym e) ∙ m.said in
+  said_no (refused n) {why = why} m e =
+      let q : refused (number_of why) ≡ verdict_of (refused n) = ap answered (sym e) ∙ m.said in
       (let k : number_of why ≡ n = cc in ap (λ (i : ℕ). refused i) (sym k), m.board)
 
 -- ---- a move on a board
@@ -70,14 +67,14 @@ module _ (b : Board) (m : Move) where
   pub made_no : {n : ℕ} → ruling (shown b) m ≡ refused n → recorded (played (shown b) m) ≡ refused n
   made_no e = ap recorded (played_no (shown b) m e)
 
-  module _ (bytes : List ℕ) {r : Decoded} (e : move_told r ≡ move_asked bytes) where
-    pub step_said : r ≡ Is m → recorded (played (shown b) m) ≡ stepped b bytes
+  module _ (bytes : List ℕ) {r : Option Move} (e : given_or 30 r ≡ move_asked bytes) where
+    pub step_said : r ≡ Some m → recorded (played (shown b) m) ≡ stepped b bytes
     unfolding stepped
-    step_said q = ap (played_on b) (ap move_told (sym q) ∙ e)
+    step_said q = ap (played_on b) (ap (given_or 30) (sym q) ∙ e)
 
-pub step_none : (b : Board) (bytes : List ℕ) {r : Decoded} → move_told r ≡ move_asked bytes → r ≡ Impossible → stepped b bytes ≡ refused 30
+pub step_none : (b : Board) (bytes : List ℕ) {r : Option Move} → given_or 30 r ≡ move_asked bytes → r ≡ None → stepped b bytes ≡ refused 30
 unfolding stepped
-step_none b bytes e q = ap (played_on b) (sym (ap move_told (sym q) ∙ e))
+step_none b bytes e q = ap (played_on b) (sym (ap (given_or 30) (sym q) ∙ e))
 
 -- the bytes follow from what is shown
 pub became : {r : Board} {t : Table} → Becomes r t → board_of t ≡ r

@@ -2,6 +2,7 @@
 #![tactic(auto)]
 
 ghost use Rattle.std.specs.Prelude.{◌≡◌, true, ◌%◌, length};
+ghost use Rattle.board.specs.Refusal.{answered};
 ghost use Rattle.board.specs.Record.{shown, laid};
 ghost use Rattle.board.specs.Inner.{Sound};
 ghost use Rattle.moves.specs.Move.{sayable};
@@ -11,20 +12,14 @@ ghost use Rattle.replay.specs.Line.{line_from, records_in, replayed, is_line};
 ghost use Rattle.replay.specs.Handed.{Moves, Ends};
 
 use board::verdict::inspect;
-use board::{Board, CODES, Examined, Refusal};
-use moves::{Decoded, LIST_ROOM, Move};
+use board::{Board, CODES, Refusal};
+use moves::{LIST_ROOM, Move};
 
-// The board after a move, or the board before it beside a refusal.
-#[derive(Clone, Copy)]
-pub struct Moved {
-    pub said: Examined,
-    pub board: Board,
-}
-
-// The board at the end, or before the first bad move, and how many moves were played: the place of that move.
+// The board at the end, or before the first bad move, and how many moves were played: the place of that move. A refusal has all
+// three, so that no Result says it more plainly.
 #[derive(Clone, Copy)]
 pub struct Replayed {
-    pub said: Examined,
+    pub said: Result<(), Refusal>,
     pub moves: usize,
     pub board: Board,
 }
@@ -32,7 +27,7 @@ pub struct Replayed {
 // The same beside a board that lies in four arrays.
 #[derive(Clone, Copy)]
 pub struct Stopped {
-    pub said: Examined,
+    pub said: Result<(), Refusal>,
     pub moves: usize,
 }
 
@@ -43,17 +38,15 @@ fn make(
     foundation: &mut [u8; 4],
     counts: &mut [u8; 8],
     tableau: &mut [u8; CODES],
-) -> Examined
+) -> Result<(), Refusal>
     requires sound { Sound (laid cells.old foundation.old counts.old tableau.old) }
     requires m_value { sayable m ≡ true }
-    ensures moves { Moves (laid cells.old foundation.old counts.old tableau.old) (recorded (played (shown (laid cells.old foundation.old counts.old tableau.old)) m)) (record { said = result; board = laid cells.new foundation.new counts.new tableau.new }) }
+    ensures moves { Moves (laid cells.old foundation.old counts.old tableau.old) (recorded (played (shown (laid cells.old foundation.old counts.old tableau.old)) m)) result (laid cells.new foundation.new counts.new tableau.new) }
     ensures sound_2 { Sound (laid cells.new foundation.new counts.new tableau.new) }
 {
-    if let Examined::Refused(why) = play::rule::ruled_at(cells, foundation, counts, tableau, m) {
-        return Examined::Refused(why);
-    }
+    play::rule::ruled_at(cells, foundation, counts, tableau, m)?;
     play::apply_to(m, cells, foundation, counts, tableau);
-    Examined::WellFormed
+    Ok(())
 }
 
 // 30, 33 to 40, or the move of a record is made, on a well formed board.
@@ -63,52 +56,46 @@ pub fn apply_record_to(
     foundation: &mut [u8; 4],
     counts: &mut [u8; 8],
     tableau: &mut [u8; CODES],
-) -> Examined
+) -> Result<(), Refusal>
     requires { Sound (laid cells.old foundation.old counts.old tableau.old) }
-    ensures moves { Moves (laid cells.old foundation.old counts.old tableau.old) (stepped (laid cells.old foundation.old counts.old tableau.old) bytes.now) (record { said = result; board = laid cells.new foundation.new counts.new tableau.new }) }
+    ensures moves { Moves (laid cells.old foundation.old counts.old tableau.old) (stepped (laid cells.old foundation.old counts.old tableau.old) bytes.now) result (laid cells.new foundation.new counts.new tableau.new) }
     ensures sound { Sound (laid cells.new foundation.new counts.new tableau.new) }
 {
     match moves::decode(bytes) {
-        Decoded::Is(m) => make(m, cells, foundation, counts, tableau),
-        Decoded::Impossible => Examined::Refused(Refusal::OutOfRange),
+        Some(m) => make(m, cells, foundation, counts, tableau),
+        None => Err(Refusal::OutOfRange),
     }
 }
 
-// The same on a board by value.
-pub fn apply_record_at(b: Board, bytes: &[u8]) -> Moved
+// The board after it, and the given board stays as it is.
+pub fn apply_record_at(b: Board, bytes: &[u8]) -> Result<Board, Refusal>
     requires { Sound b }
-    ensures { Moves b (stepped b bytes.now) result }
+    ensures { answered result ≡ stepped b bytes.now }
 {
     let mut cells = b.cells;
     let mut foundation = b.foundation;
     let mut counts = b.counts;
     let mut tableau = b.tableau;
-    let said = apply_record_to(
+    apply_record_to(
         bytes,
         &mut cells,
         &mut foundation,
         &mut counts,
         &mut tableau,
-    );
-    let board = Board {
+    )?;
+    Ok(Board {
         cells,
         foundation,
         counts,
         tableau,
-    };
-    Moved { said, board }
+    })
 }
 
 // 12 to 15, 30, 33 to 40, or the board after the move of a record.
-pub fn apply_record(b: Board, bytes: &[u8]) -> Moved
-    ensures { Moves b (move_made b bytes.now) result }
+pub fn apply_record(b: Board, bytes: &[u8]) -> Result<Board, Refusal>
+    ensures { answered result ≡ move_made b bytes.now }
 {
-    if let Examined::Refused(why) = inspect(&b.cells, &b.foundation, &b.counts, &b.tableau) {
-        return Moved {
-            said: Examined::Refused(why),
-            board: b,
-        };
-    }
+    inspect(&b.cells, &b.foundation, &b.counts, &b.tableau)?;
     apply_record_at(b, bytes)
 }
 
@@ -125,23 +112,21 @@ pub fn replay_to(
     ensures ends { Ends (line_from (laid cells.old foundation.old counts.old tableau.old) (records_in bytes.now)) (record { said = result.said; moves = result.moves; board = laid cells.new foundation.new counts.new tableau.new }) }
     ensures sound_2 { Sound (laid cells.new foundation.new counts.new tableau.new) }
 {
-    let mut moves = 0;
-    let mut at = 0;
-    while at < bytes.len() {
+    let all = bytes.len() / 5;
+    for moves in 0..all {
+        let at = moves * 5;
         let end = at + 5;
         let said = apply_record_to(&bytes[at..end], cells, foundation, counts, tableau);
-        if let Examined::Refused(why) = said {
+        if let Err(why) = said {
             return Stopped {
-                said: Examined::Refused(why),
+                said: Err(why),
                 moves,
             };
         }
-        moves += 1;
-        at = end;
     }
     Stopped {
-        said: Examined::WellFormed,
-        moves,
+        said: Ok(()),
+        moves: all,
     }
 }
 
@@ -189,9 +174,9 @@ pub fn is_line(list: &[u8]) -> bool
 pub fn replay(b: Board, bytes: &[u8]) -> Replayed
     ensures { Ends (replayed b bytes.now) result }
 {
-    if let Examined::Refused(why) = inspect(&b.cells, &b.foundation, &b.counts, &b.tableau) {
+    if let Err(why) = inspect(&b.cells, &b.foundation, &b.counts, &b.tableau) {
         return Replayed {
-            said: Examined::Refused(why),
+            said: Err(why),
             moves: 0,
             board: b,
         };
@@ -200,7 +185,7 @@ pub fn replay(b: Board, bytes: &[u8]) -> Replayed
         return replay_at(b, bytes);
     }
     Replayed {
-        said: Examined::Refused(Refusal::WrongList),
+        said: Err(Refusal::WrongList),
         moves: 0,
         board: b,
     }

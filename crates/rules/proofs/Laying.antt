@@ -1,5 +1,8 @@
 -- Laws of fit, run and limit: what the top of a column says, how a run grows and ends, how large the limit is.
-use mathlib.Core.Path.{◌≡◌, refl, sym, ap, ◌∙◌, subst}
+use mathlib.Core.Path.{◌≡◌, refl, sym, ap, ap₂, ◌∙◌, subst}
+use Rattle.std.proofs.Common.{Some, None}
+use Rattle.std.specs.List.{slice_get}
+use Rattle.std.proofs.lemmas.Option.{none-some, slice_get-get_or, slice_get_within, get_or_from_slice_get}
 use mathlib.Core.Bool.{Bool, true, false, cond, ◌&&◌}
 use mathlib.Core.List.{List, [], ◌∷◌}
 use Prim.Native.Nat.{ℕ, zero, suc, ◌+◌, ◌-◌, ◌*◌, ◌/◌, ◌%◌, ◌^◌, ◌<◌, ◌≤◌}
@@ -15,10 +18,10 @@ use Rattle.card.specs.Card.{is_card}
 use Rattle.base.proofs.Words.{first, second, both, first_fails, second_fails, get_or-listed}
 use Rattle.base.proofs.Sums.{sum_part, sum_ones}
 use Rattle.card.proofs.Codes.{card_is}
-use Rattle.board.specs.Record.{column_at, room}
+use Rattle.board.specs.Record.{column_at}
 use Rattle.board.specs.Inner.{GoodColumns}
 use Rattle.board.proofs.Bits.{bit_word}
-use Rattle.board.proofs.Soundness.{column_length, column_code}
+use Rattle.board.proofs.Soundness.{column_length}
 use Rattle.questions.specs.Questions.{empty_cells, empty_columns}
 use Rattle.runs.specs.Follows.{follows}
 use Rattle.rules.specs.Fit.{fits_on}
@@ -31,10 +34,17 @@ one_at_most false = omega arith
 
 -- ---- fit
 
-pub fits_none : (l : List ℕ) (x : ℕ) → length l ≡ 0 → fits_on l x ≡ true
+-- the last element of a list, if it has one
+pub last_of_some : (l : List ℕ) (x : ℕ) → Some x ≡ slice_get l (length l - 1) → (length l - 1 < length l) × (get_or l (length l - 1) 0 ≡ x)
+last_of_some l x e = (slice_get_within l (length l - 1) x (sym e), get_or_from_slice_get l (length l - 1) x 0 (sym e))
+
+pub last_of_none : (l : List ℕ) → None ≡ slice_get l (length l - 1) → l ≡ []
+last_of_none [] e = refl
+last_of_none (x ∷ l) e = absurd (none-some _ (e ∙ slice_get-get_or (x ∷ l) (length (x ∷ l) - 1) 0 (omega arith)))
+
+pub fits_none : (l : List ℕ) (x : ℕ) → None ≡ slice_get l (length l - 1) → fits_on l x ≡ true
 unfolding fits_on
-fits_none [] x e = refl
-fits_none (y ∷ l) x e = absurd (let z : ⊥ = omega arith in z)
+fits_none l x e = rw (last_of_none l e) refl
 
 pub fits_top : (l : List ℕ) (x n : ℕ) → length l ≡ suc n → fits_on l x ≡ follows (get_or l n 0) x
 unfolding fits_on
@@ -43,6 +53,11 @@ fits_top (y ∷ []) x zero e = refl
 fits_top (y ∷ []) x (suc n) e = absurd (let z : ⊥ = omega arith in z)
 fits_top (y ∷ z ∷ l) x zero e = absurd (let z : ⊥ = omega arith in z)
 fits_top (y ∷ z ∷ l) x (suc n) e = fits_top (z ∷ l) x n (omega arith)
+
+pub fits_last : (l : List ℕ) (x y : ℕ) → Some y ≡ slice_get l (length l - 1) → fits_on l x ≡ follows y x
+fits_last l x y e =
+    let last = last_of_some l y e in
+    fits_top l x (length l - 1) (omega arith) ∙ ap (λ (z : ℕ). follows z x) last.1
 
 -- ---- runs
 
@@ -58,8 +73,13 @@ run_one (x ∷ []) zero e = refl
 run_one (x ∷ y ∷ l) zero e = absurd (let z : ⊥ = omega arith in z)
 run_one (x ∷ l) (suc n) e = run_one l n (omega arith)
 
+-- the top card alone, if there is one
+pub run_first : (l : List ℕ) → 0 < length l → is_run (drop (length l - 1) l) ≡ true
+run_first [] h = absurd (let z : ⊥ = omega arith in z)
+run_first (x ∷ l) h = run_one (x ∷ l) (length (x ∷ l) - 1) (omega arith)
+
 -- one card more from below
-pub run_more : (l : List ℕ) (j : ℕ) → suc j < length l → is_run (drop (suc j) l) ≡ true → follows (get_or l j 0) (get_or l (suc j) 0) ≡ true → is_run (drop j l) ≡ true
+run_more : (l : List ℕ) (j : ℕ) → suc j < length l → is_run (drop (suc j) l) ≡ true → follows (get_or l j 0) (get_or l (suc j) 0) ≡ true → is_run (drop j l) ≡ true
 run_more [] j h r f = absurd (let z : ⊥ = omega arith in z)
 run_more (x ∷ l) zero h r f = run_cons x l (omega arith) ∙ both f r
 run_more (x ∷ l) (suc j) h r f = run_more l j (le_of_suc-le-suc h) r f
@@ -71,23 +91,18 @@ run_break (x ∷ l) zero h f = run_cons x l (omega arith) ∙ first_fails (follo
 run_break (x ∷ l) (suc j) h f =
     run_cons x l (omega arith) ∙ second_fails (follows x (get_or l 0 0)) (is_run l) (run_break l j (le_of_suc-le-suc h) f)
 
-pub run_whole : (l : List ℕ) → is_run l ≡ true → run_length l ≡ length l
+run_whole : (l : List ℕ) → is_run l ≡ true → run_length l ≡ length l
 unfolding run_length
 run_whole [] r = refl
 run_whole (x ∷ l) r = rw r
 
-pub run_ends : (l : List ℕ) (j : ℕ) → suc j < length l → is_run (drop (suc j) l) ≡ true → follows (get_or l j 0) (get_or l (suc j) 0) ≡ false
+run_ends : (l : List ℕ) (j : ℕ) → suc j < length l → is_run (drop (suc j) l) ≡ true → follows (get_or l j 0) (get_or l (suc j) 0) ≡ false
     → run_length l ≡ length l - suc j
 unfolding run_length
 run_ends [] j h r f = absurd (let z : ⊥ = omega arith in z)
 run_ends (x ∷ l) zero h r f = rw (run_break (x ∷ l) 0 h f) (run_whole l r ∙ (let e : length l ≡ suc (length l) - 1 = omega arith in e))
 run_ends (x ∷ l) (suc j) h r f =
     rw (run_break (x ∷ l) (suc j) h f) (run_ends l j (le_of_suc-le-suc h) r f ∙ (let e : length l - suc j ≡ suc (length l) - suc (suc j) = omega arith in e))
-
-pub run_none : (l : List ℕ) → length l ≡ 0 → run_length l ≡ 0
-unfolding run_length
-run_none [] e = refl
-run_none (x ∷ l) e = absurd (let z : ⊥ = omega arith in z)
 
 pub run_at_most : (l : List ℕ) → run_length l ≤ length l
 unfolding run_length
@@ -121,56 +136,36 @@ run_top (x ∷ l) (suc j) h = by_run (is_run (x ∷ l)) refl (run_top l j (le_of
     by_run true e i = run_rest (x ∷ l) (suc j) h e ∙ sym (le-leb (suc (length l) - suc j) (suc (length l)) (omega arith))
     by_run false e i = i ∙ ap (λ (n : ℕ). leb n (run_length l)) (let q : length l - j ≡ suc (length l) - suc j = omega arith in q)
 
--- a place within a column of a record has a card
-pub card_in : {counts tableau : List ℕ} → GoodColumns counts tableau → (i place : ℕ) → i < 8 → i * room ≤ place → place < i * room + get_or counts i 0
-    → is_card (get_or tableau place 0) ≡ true
-card_in {counts} {tableau} g i place h a b =
-    subst (λ (p : ℕ). is_card (get_or tableau p 0) ≡ true) (let q : i * room + (place - i * room) ≡ place = omega arith in q) (g.codes i (place - i * room) h (omega arith))
+-- the run of `run` cards on top of l, and the card under it
+module _ (l : List ℕ) (run : ℕ) (one : 1 ≤ run) (some : run < length l) where
+  abbrev upper : ℕ
+  upper = length l - suc run
 
--- ---- one step down a column of a record: its run of `run` cards, and the card under it
+  abbrev lower : ℕ
+  lower = length l - run
 
-module _ {counts tableau : List ℕ} (g : GoodColumns counts tableau) (i w run : ℕ) (h : i < 8) (e : w ≡ get_or counts i 0) (one : 1 ≤ run) (some : run < w) where
-  abbrev col : List ℕ
-  col = column_at counts tableau i
+  next : lower ≡ suc upper
+  next = omega arith
 
-  abbrev under : ℕ
-  under = get_or tableau (i * room + (w - run) - 1) 0
+  step : {t : Bool} → follows (get_or l (lower - 1) 0) (get_or l lower 0) ≡ t → follows (get_or l upper 0) (get_or l (suc upper) 0) ≡ t
+  step f =
+      sym (ap₂ (λ (j k : ℕ). follows (get_or l j 0) (get_or l k 0)) (let q : lower - 1 ≡ upper = omega arith in q) next) ∙ f
 
-  abbrev deepest : ℕ
-  deepest = get_or tableau (i * room + (w - run)) 0
-
-  under_place : i * room + (w - run) - 1 ≡ i * room + (w - suc run)
-  under_place = omega arith
-
-  -- both as cards of the column
-  step : follows under deepest ≡ follows (get_or col (w - suc run) 0) (get_or col (suc (w - suc run)) 0)
-  step =
-      ap (λ (p : ℕ). follows (get_or tableau p 0) deepest) under_place
-      ∙ ap (λ (x : ℕ). follows x deepest) (sym (column_code counts tableau i (w - suc run) (omega arith)))
-      ∙ ap (follows (get_or col (w - suc run) 0))
-      (ap (λ (k : ℕ). get_or tableau (i * room + k) 0) next ∙ sym (column_code counts tableau i (suc (w - suc run)) (omega arith)))
-    where
-      next : w - run ≡ suc (w - suc run)
-      next = omega arith
-
-  next_row : w - run ≡ suc (w - suc run)
-  next_row = omega arith
-
-  pub run_grows : is_run (drop (w - run) col) ≡ true → follows under deepest ≡ true → is_run (drop (w - (run + 1)) col) ≡ true
+  pub run_grows : is_run (drop lower l) ≡ true → follows (get_or l (lower - 1) 0) (get_or l lower 0) ≡ true → is_run (drop (length l - (run + 1)) l) ≡ true
   run_grows r f =
-      subst (λ (k : ℕ). is_run (drop k col) ≡ true) (let q : w - suc run ≡ w - (run + 1) = omega arith in q)
-      (run_more col (w - suc run) (let n = column_length g i h in omega arith) (subst (λ (k : ℕ). is_run (drop k col) ≡ true) next_row r) (sym step ∙ f))
+      subst (λ (k : ℕ). is_run (drop k l) ≡ true) (let q : upper ≡ length l - (run + 1) = omega arith in q)
+      (run_more l upper (omega arith) (subst (λ (k : ℕ). is_run (drop k l) ≡ true) next r) (step f))
 
-  pub run_stops : is_run (drop (w - run) col) ≡ true → follows under deepest ≡ false → run ≡ run_length col
+  pub run_stops : is_run (drop lower l) ≡ true → follows (get_or l (lower - 1) 0) (get_or l lower 0) ≡ false → run ≡ run_length l
   run_stops r f =
-      let n = column_length g i h in
-      let q = run_ends col (w - suc run) (omega arith) (subst (λ (k : ℕ). is_run (drop k col) ≡ true) next_row r) (sym step ∙ f) in
+      let q = run_ends l upper (omega arith) (subst (λ (k : ℕ). is_run (drop k l) ≡ true) next r) (step f) in
       omega arith
 
-pub run_all : (l : List ℕ) (w run : ℕ) → length l ≡ w → run ≤ w → w ≤ run → is_run (drop (w - run) l) ≡ true → run ≡ run_length l
-run_all l w run n a b r =
-    let q = run_whole l (subst (λ (k : ℕ). is_run (drop k l) ≡ true) (let z : w - run ≡ 0 = omega arith in z) r) in
-    omega arith
+pub run_all : (l : List ℕ) (run : ℕ) → length l ≤ run → (0 < length l → is_run (drop (length l - run) l) ≡ true) → length l ≡ run_length l
+unfolding run_length
+run_all [] run a r = refl
+run_all (x ∷ l) run a r =
+    sym (run_whole (x ∷ l) (subst (λ (k : ℕ). is_run (drop k (x ∷ l)) ≡ true) (let z : length (x ∷ l) - run ≡ 0 = omega arith in z) (r (omega arith))))
 
 -- a run's deepest card is at least as high as the run is long
 run_deep : (x : ℕ) (l : List ℕ) → all is_card (x ∷ l) ≡ true → is_run (x ∷ l) ≡ true → suc (length l) ≤ x / 16

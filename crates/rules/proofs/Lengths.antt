@@ -3,20 +3,19 @@
 use mathlib.Core.Path.{◌≡◌, refl, sym, ap, ◌∙◌}
 use mathlib.Core.Bool.{true}
 use mathlib.Core.List.{List, [], ◌∷◌}
-use Prim.Native.Nat.{ℕ, zero, suc, ◌+◌, ◌-◌, ◌*◌, ◌/◌, ◌<◌}
+use Prim.Native.Nat.{ℕ, zero, suc, ◌+◌, ◌-◌, ◌/◌, ◌<◌}
 use native.Mathlib.Omega.{arith}
 use borrow.Author.Tests.{le-leb, eqb-true}
 use lib.Dec.{eqb}
 use lib.ListN.{length, get_or, drop, length-drop}
 use lib.Seq.{get_or-drop}
 use Rattle.base.proofs.Words.{first, second}
-use Rattle.board.specs.Record.{column_at, room}
-use Rattle.board.specs.Inner.{GoodColumns}
-use Rattle.board.proofs.Soundness.{column_length, column_code}
 use Rattle.runs.specs.Follows.{follows}
 use Rattle.runs.specs.Run.{is_run, run_length}
 use Rattle.rules.specs.Inner.{top_value}
-use Rattle.rules.proofs.Laying.{run_top, run_at_most}
+use Rattle.rules.proofs.Laying.{run_top, run_at_most, last_of_none, last_of_some}
+use Rattle.std.proofs.Common.{Some, None}
+use Rattle.std.specs.List.{slice_get}
 
 pub follows_falls : (upper lower : ℕ) → follows upper lower ≡ true → upper / 16 ≡ lower / 16 + 1
 unfolding follows
@@ -58,21 +57,10 @@ module _ (l : List ℕ) where
   pub one_length : (y k m : ℕ) → k < run_length l → m < run_length l → follows y (under (suc k)) ≡ true → follows y (under (suc m)) ≡ true → k ≡ m
   one_length y k m h i e f = let a = only_length y k h e in let b = only_length y m i f in omega arith
 
--- ---- of a record
-
-pub no_value : (l : List ℕ) → length l ≡ 0 → 0 ≡ top_value l
+pub no_value : (l : List ℕ) → None ≡ slice_get l (length l - 1) → 0 ≡ top_value l
 unfolding top_value
-no_value [] e = refl
-no_value (x ∷ l) e = absurd (let z : ⊥ = omega arith in z)
+no_value l e = rw (last_of_none l e) refl
 
-module _ {counts tableau : List ℕ} (g : GoodColumns counts tableau) (i w : ℕ) (h : i < 8) (e : w ≡ get_or counts i 0) where
-  pub value_none : w ≡ 0 → 0 ≡ top_value (column_at counts tableau i)
-  value_none q = no_value (column_at counts tableau i) (column_length g i h ∙ sym e ∙ q)
-
-  pub value_some : (w ≡ 0 → ⊥) → {x : ℕ} → x ≡ get_or tableau (i * room + (w - 1)) 0 → x / 16 ≡ top_value (column_at counts tableau i)
-  unfolding top_value
-  value_some d q =
-      let n = column_length g i h in
-      ap (λ (y : ℕ). y / 16)
-      (q ∙ sym (column_code counts tableau i (w - 1) (omega arith))
-      ∙ ap (λ (k : ℕ). get_or (column_at counts tableau i) k 0) (let z : w - 1 ≡ length (column_at counts tableau i) - 1 = omega arith in z))
+pub last_value : (l : List ℕ) (x : ℕ) → Some x ≡ slice_get l (length l - 1) → x / 16 ≡ top_value l
+unfolding top_value
+last_value l x e = ap (λ (y : ℕ). y / 16) (sym (last_of_some l x e).1)

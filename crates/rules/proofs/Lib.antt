@@ -2,4 +2,3 @@
 pub mod Laying
 pub mod Lengths
 pub mod Examples
-pub mod Unique

@@ -1,28 +1,21 @@
 // The rules of laying cards: fit, run, the most cards moved at once (after freecell/board.rs, changed: NOTICE).
 #![tactic(auto)]
 
-ghost use Rattle.std.specs.Prelude.{◌≡◌, true, ◌<◌, get_or};
+ghost use Rattle.std.specs.Prelude.{◌≡◌, true, ◌<◌};
+ghost use Rattle.board.specs.Refusal.{answered};
 ghost use Rattle.base.specs.Words.{listed};
 ghost use Rattle.card.specs.Card.{is_card};
 ghost use Rattle.board.specs.Record.{column_at};
 ghost use Rattle.board.specs.Inner.{GoodCells, GoodPiles, GoodColumns};
-ghost use Rattle.questions.specs.Told.{count_told};
 ghost use Rattle.rules.specs.Inner.{top_value};
 ghost use Rattle.rules.specs.Fit.{fits_on, home_takes};
 ghost use Rattle.runs.specs.Run.{run_length};
 ghost use Rattle.rules.specs.Limit.{usable, most_moved};
-ghost use Rattle.rules.specs.Asked.{fit_asked, run_asked, most_asked, takes_asked, yes_told};
+ghost use Rattle.rules.specs.Asked.{fit_asked, run_asked, most_asked, takes_asked};
 
 use board::verdict::inspect;
-use board::{Board, CODES, Examined, ROOM, Refusal};
-use questions::CountAnswer;
-
-#[derive(Clone, Copy)]
-pub enum YesNo {
-    Yes,
-    No,
-    Refused(Refusal),
-}
+use board::{Board, CODES, Refusal};
+use questions::column_at;
 
 // A column takes a card.
 pub fn fit_at<'a>(counts: &'a [u8; 8], tableau: &'a [u8; CODES], i: usize, code: u8) -> bool
@@ -31,13 +24,10 @@ pub fn fit_at<'a>(counts: &'a [u8; 8], tableau: &'a [u8; CODES], i: usize, code:
     requires code_value { is_card code ≡ true }
     ensures { result ≡ fits_on (column_at counts.now tableau.now i) code }
 {
-    let count = base::wide(counts[i]);
-    if count == 0 {
-        return true;
+    match column_at(counts, tableau, i).last() {
+        Some(top) => runs::may_lie_on(*top, code),
+        None => true,
     }
-    let first = i * ROOM;
-    let last = first + (count - 1);
-    runs::may_lie_on(tableau[last], code)
 }
 
 // The value of a column's top card, 0 if there is none.
@@ -46,13 +36,10 @@ pub fn top_value<'a>(counts: &'a [u8; 8], tableau: &'a [u8; CODES], i: usize) ->
     requires i_bound { i < 8 }
     ensures { result ≡ top_value (column_at counts.now tableau.now i) }
 {
-    let count = base::wide(counts[i]);
-    if count == 0 {
-        return 0;
+    match column_at(counts, tableau, i).last() {
+        Some(top) => usize::from(*top / 16),
+        None => 0,
     }
-    let first = i * ROOM;
-    let last = first + (count - 1);
-    base::wide(tableau[last]) / 16
 }
 
 // The longest run that ends at the top of a column.
@@ -61,21 +48,14 @@ pub fn run_at<'a>(counts: &'a [u8; 8], tableau: &'a [u8; CODES], i: usize) -> us
     requires i_bound { i < 8 }
     ensures { result ≡ run_length (column_at counts.now tableau.now i) }
 {
-    let count = base::wide(counts[i]);
-    if count == 0 {
-        return 0;
-    }
-    let first = i * ROOM;
-    let mut run = 1;
-    while run < count {
-        let lower = first + (count - run);
-        let upper = lower - 1;
-        if !runs::may_lie_on(tableau[upper], tableau[lower]) {
+    let cards = column_at(counts, tableau, i);
+    for run in 1..cards.len() {
+        let lower = cards.len() - run;
+        if !runs::may_lie_on(cards[lower - 1], cards[lower]) {
             return run;
         }
-        run += 1;
     }
-    run
+    cards.len()
 }
 
 // The empty columns that help a move into a column.
@@ -114,66 +94,49 @@ pub fn home_takes(foundation: &[u8; 4], code: u8) -> bool
     requires code_value { is_card code ≡ true }
     ensures { result ≡ home_takes foundation.now code }
 {
-    let suit = base::wide(code % 16);
-    let next = base::wide(foundation[suit]) + 1;
-    base::wide(code / 16) == next
+    let next = foundation[usize::from(code % 16)] + 1;
+    code / 16 == next
 }
 
-pub fn can_add_to_tableau(b: Board, code: u8, i: usize) -> YesNo
-    ensures { yes_told result ≡ fit_asked b code i }
+pub fn can_add_to_tableau(b: Board, code: u8, i: usize) -> Result<bool, Refusal>
+    ensures { answered result ≡ fit_asked b code i }
 {
-    if let Examined::Refused(why) = inspect(&b.cells, &b.foundation, &b.counts, &b.tableau) {
-        return YesNo::Refused(why);
-    }
+    inspect(&b.cells, &b.foundation, &b.counts, &b.tableau)?;
     if !card::is_card(code) {
-        return YesNo::Refused(Refusal::OutOfRange);
+        return Err(Refusal::OutOfRange);
     }
     if 7 < i {
-        return YesNo::Refused(Refusal::OutOfRange);
+        return Err(Refusal::OutOfRange);
     }
-    if fit_at(&b.counts, &b.tableau, i, code) {
-        YesNo::Yes
-    } else {
-        YesNo::No
-    }
+    Ok(fit_at(&b.counts, &b.tableau, i, code))
 }
 
-pub fn max_tableau_run_length(b: Board, i: usize) -> CountAnswer
-    ensures { count_told result ≡ run_asked b i }
+pub fn max_tableau_run_length(b: Board, i: usize) -> Result<usize, Refusal>
+    ensures { answered result ≡ run_asked b i }
 {
-    if let Examined::Refused(why) = inspect(&b.cells, &b.foundation, &b.counts, &b.tableau) {
-        return CountAnswer::Refused(why);
-    }
+    inspect(&b.cells, &b.foundation, &b.counts, &b.tableau)?;
     if 7 < i {
-        return CountAnswer::Refused(Refusal::OutOfRange);
+        return Err(Refusal::OutOfRange);
     }
-    CountAnswer::Count(run_at(&b.counts, &b.tableau, i))
+    Ok(run_at(&b.counts, &b.tableau, i))
 }
 
-pub fn max_movable_cards(b: Board, to: usize) -> CountAnswer
-    ensures { count_told result ≡ most_asked b to }
+pub fn max_movable_cards(b: Board, to: usize) -> Result<usize, Refusal>
+    ensures { answered result ≡ most_asked b to }
 {
-    if let Examined::Refused(why) = inspect(&b.cells, &b.foundation, &b.counts, &b.tableau) {
-        return CountAnswer::Refused(why);
-    }
+    inspect(&b.cells, &b.foundation, &b.counts, &b.tableau)?;
     if 7 < to {
-        return CountAnswer::Refused(Refusal::OutOfRange);
+        return Err(Refusal::OutOfRange);
     }
-    CountAnswer::Count(most_at(&b.cells, &b.counts, &b.tableau, to))
+    Ok(most_at(&b.cells, &b.counts, &b.tableau, to))
 }
 
-pub fn can_add_to_foundation(b: Board, code: u8) -> YesNo
-    ensures { yes_told result ≡ takes_asked b code }
+pub fn can_add_to_foundation(b: Board, code: u8) -> Result<bool, Refusal>
+    ensures { answered result ≡ takes_asked b code }
 {
-    if let Examined::Refused(why) = inspect(&b.cells, &b.foundation, &b.counts, &b.tableau) {
-        return YesNo::Refused(why);
-    }
+    inspect(&b.cells, &b.foundation, &b.counts, &b.tableau)?;
     if !card::is_card(code) {
-        return YesNo::Refused(Refusal::OutOfRange);
+        return Err(Refusal::OutOfRange);
     }
-    if home_takes(&b.foundation, code) {
-        YesNo::Yes
-    } else {
-        YesNo::No
-    }
+    Ok(home_takes(&b.foundation, code))
 }

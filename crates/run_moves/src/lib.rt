@@ -1,7 +1,8 @@
-// Runs from column to column, by destination and length (after freecell/board.rs, `find_tableau_to_tableau`, changed: NOTICE).
+// Runs from column to column, by destination and length (after freecell/board.rs, `find_tableau_to_tableau`,
+// changed: NOTICE).
 #![tactic(auto)]
 
-ghost use Rattle.std.specs.Prelude.{◌≡◌, suc, min, ◌+◌, ◌*◌, ◌<◌, ◌≤◌, length, get_or};
+ghost use Rattle.std.specs.Prelude.{◌≡◌, suc, ◌+◌, ◌*◌, ◌<◌, ◌≤◌, length, get_or};
 ghost use Rattle.board.specs.Record.{shown, column_at, laid};
 ghost use Rattle.board.specs.Inner.{Sound};
 ghost use Rattle.runs.specs.Run.{run_length};
@@ -31,7 +32,7 @@ fn offer_run<'a>(
 {
     let first = i * ROOM;
     let above = k + 1;
-    let lie = base::wide(counts[i]);
+    let lie = usize::from(counts[i]);
     let deepest = first + (lie - above);
     let code = tableau[deepest];
     if rules::fit_at(counts, tableau, j, code) {
@@ -45,16 +46,6 @@ fn offer_run<'a>(
         return moves::write(out, n, m);
     }
     n
-}
-
-// The smaller of two numbers.
-fn lesser(a: usize, b: usize) -> usize
-    ensures { result ≡ min a b }
-{
-    if a < b {
-        return a;
-    }
-    b
 }
 
 // The runs of up to `last` cards between two columns, length after length.
@@ -74,10 +65,8 @@ fn runs_into<'a>(
     ensures { Adds out.old out.new n result (gather last (tried_run (shown (laid cells.now foundation.now counts.now tableau.now)) i j)) }
 {
     let mut made = n;
-    let mut k = 0;
-    while k < last {
+    for k in 0..last {
         made = offer_run(cells, foundation, counts, tableau, i, j, k, out, made);
-        k += 1;
     }
     made
 }
@@ -135,7 +124,7 @@ fn runs_between<'a>(
         return n;
     }
     let most = rules::most_at(cells, counts, tableau, j);
-    let last = lesser(run, most);
+    let last = run.min(most);
     if counts[j] == 0 {
         return runs_into(cells, foundation, counts, tableau, i, j, last, out, n);
     }
@@ -159,10 +148,8 @@ pub fn runs_from<'a>(
 {
     let run = rules::run_at(counts, tableau, i);
     let mut made = n;
-    let mut j = 0;
-    while j < 8 {
+    for j in 0..8 {
         made = runs_between(cells, foundation, counts, tableau, i, run, j, out, made);
-        j += 1;
     }
     made
 }

@@ -5,15 +5,14 @@ ghost use Rattle.std.specs.Prelude.{◌≡◌, true};
 ghost use Rattle.card.specs.Card.{is_card};
 ghost use Rattle.runs.specs.Follows.{red, follows};
 
+use card::Color;
+
 // A card is red.
 fn is_red(code: u8) -> bool
     requires { is_card code ≡ true }
     ensures { result ≡ red code }
 {
-    match card::card_of(code).color() {
-        card::Color::Red => true,
-        card::Color::Black => false,
-    }
+    matches!(card::card_of(code).color(), Color::Red)
 }
 
 // `lower` may lie on `upper`: the rule of the game.

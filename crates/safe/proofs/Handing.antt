@@ -1,4 +1,6 @@
 -- The loop of the chain, turn by turn, and what is handed back.
+use Rattle.board.specs.Refusal.{answered}
+use Rattle.std.specs.Prelude.{Ok, Some, Result, None}
 use mathlib.Core.Path.{◌≡◌, refl, sym, ap, ◌∙◌, subst}
 use mathlib.Core.Bool.{Bool, true, false}
 use mathlib.Core.List.{List, [], ◌∷◌}
@@ -8,14 +10,10 @@ use lib.ListN.{length}
 use Rattle.base.specs.Answer.{given, refused, unless}
 use Rattle.card.specs.Card.{is_card}
 use Rattle.board.specs.Table.{Table}
-use Rattle.board.specs.Verdict.{Verdict, fine}
 use Rattle.board.specs.Record.{examined, shown, board_of}
-use Rattle.board.specs.Refusal.{examined_told}
 use Rattle.board.specs.Inner.{Sound}
 use Rattle.board.specs.declared.Board.{Board}
 use Rattle.board.specs.declared.Refusal.{Refusal}
-use Rattle.board.specs.declared.Examined.{Examined}
-use Rattle.board.specs.declared.Examined.TheVariants.{WellFormed, Refused}
 use Rattle.board.proofs.Records.{record_of_shown}
 use Rattle.board.proofs.Fair.{shows_fair}
 use Rattle.questions.proofs.Asking.{after_yes, shown_foundation}
@@ -27,9 +25,7 @@ use Rattle.replay.proofs.Stepping.{became, sound_after}
 use Rattle.replay.proofs.Legal.{after_none, after_next}
 use Rattle.safe.specs.Safe.{safe, first_safe}
 use Rattle.safe.specs.Chain.{chain_of, chain}
-use Rattle.safe.specs.Asked.{safe_asked, Runs, Chains}
-use Rattle.safe.specs.declared.SafeMove.TheVariants.{Is, NoMove}
-use Rattle.safe.specs.declared.Chained.{Chained}
+use Rattle.safe.specs.Asked.{safe_asked, chained, Runs}
 use Rattle.safe.proofs.Safety.{safe_said, safe-allowed}
 use Rattle.safe.proofs.Chaining.{chain_next, chain_none, chain_stops}
 
@@ -47,11 +43,11 @@ unfolding chain
 chaining_start s = record { sound = s; upto = omega arith; many = omega arith; left = refl }
 
 -- a first safe move may be played
-pub chain_ready : {b : Board} {m : Move} → Sound b → first_safe (shown b) ≡ Is m → Ready b m
+pub chain_ready : {b : Board} {m : Move} → Sound b → first_safe (shown b) ≡ Some m → Ready b m
 chain_ready {b} s e = record { sound = s; said = safe_said (shown b) e (shows_fair s); allows = safe-allowed (shown b) e }
 
 module _ {b now : Board} {moves : ℕ} (r : Chaining b now moves) where
-  pub chaining_turn : {m : Move} {next : Board} → moves < 52 → first_safe (shown now) ≡ Is m → Becomes next (after_move (shown now) m)
+  pub chaining_turn : {m : Move} {next : Board} → moves < 52 → first_safe (shown now) ≡ Some m → Becomes next (after_move (shown now) m)
       → Chaining b next (moves + 1)
   chaining_turn {m} {next} h e d =
       record {
@@ -78,7 +74,7 @@ module _ {b now : Board} {moves : ℕ} (r : Chaining b now moves) where
         sound = r.sound;
       }
 
-  pub chaining_stop : first_safe (shown now) ≡ NoMove → Runs b now moves
+  pub chaining_stop : first_safe (shown now) ≡ None → Runs b now moves
   chaining_stop e = done (chain_stops (52 - moves) (shown now) e)
 
   pub chaining_full : 52 ≤ moves → Runs b now moves
@@ -86,10 +82,11 @@ module _ {b now : Board} {moves : ℕ} (r : Chaining b now moves) where
 
 -- ---- what is handed back
 
-pub chains_played : {b after : Board} {moves : ℕ} → Runs b after moves → Chains fine b (record { said = WellFormed; moves = moves; board = after })
-chains_played r = record { said = refl; moves = r.many; board = r.ends }
+pub chain_played : {b after : Board} {moves : ℕ} → Runs b after moves → record { moves = moves; board = after } ≡ chained b
+unfolding chained
+chain_played r = rw (r.many, r.ends) refl
 
-module _ (b : Board) (x : ℕ) {e : Examined} (p : examined_told e ≡ examined b) (q : e ≡ WellFormed) {ok : Bool} (k : ok ≡ is_card x) where
+module _ (b : Board) (x : ℕ) {e : Result (Unit {0}) Refusal} (p : answered e ≡ examined b) (q : e ≡ Ok tt) {ok : Bool} (k : ok ≡ is_card x) where
   on_card : {t : Bool} → ok ≡ t → unless t 30 (given (safe b.foundation x)) ≡ safe_asked b x
   unfolding safe_asked
   on_card c =
@@ -99,14 +96,5 @@ module _ (b : Board) (x : ℕ) {e : Examined} (p : examined_told e ≡ examined 
   pub asked_no_card : ok ≡ false → refused 30 ≡ safe_asked b x
   asked_no_card c = on_card c
 
-  pub asked-safe : {r t : Bool} → ok ≡ true → r ≡ safe b.foundation x → r ≡ t → given t ≡ safe_asked b x
-  asked-safe c f g = ap (λ (t : Bool). given t) (sym g ∙ f) ∙ on_card c
-
-module _ {b : Board} {e : Examined} (p : examined_told e ≡ examined b) where
-  pub chains_no : {why : Refusal} → e ≡ Refused why → Chains (examined b) b (record { said = Refused why; moves = 0; board = b })
-  chains_no {why} q =
-      subst (λ (v : Verdict). Chains v b (record { said = Refused why; moves = 0; board = b })) (ap examined_told (sym q) ∙ p)
-      (record { said = refl; moves = refl; board = refl })
-
-  pub chains_yes : {r : Chained} → e ≡ WellFormed → Chains fine b r → Chains (examined b) b r
-  chains_yes {r} q c = subst (λ (v : Verdict). Chains v b r) (ap examined_told (sym q) ∙ p) c
+  pub asked-safe : {r : Bool} → ok ≡ true → r ≡ safe b.foundation x → given r ≡ safe_asked b x
+  asked-safe c f = ap (λ (t : Bool). given t) f ∙ on_card c

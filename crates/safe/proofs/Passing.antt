@@ -1,4 +1,5 @@
 -- The first safe move, place by place: nothing is safe at the places passed.
+use Rattle.std.specs.Prelude.{None, Some, Option}
 use mathlib.Core.Path.{◌≡◌, refl, sym, ap, ◌∙◌}
 use mathlib.Core.Bool.{Bool, true, false, cond, ◌&&◌}
 use mathlib.Core.List.{List, [], ◌∷◌, append_assoc}
@@ -15,8 +16,6 @@ use Rattle.board.specs.Record.{column_at, shown}
 use Rattle.board.specs.Inner.{Sound}
 use Rattle.board.specs.declared.Board.{Board}
 use Rattle.questions.specs.Questions.{top_of}
-use Rattle.questions.specs.declared.Top.{Top}
-use Rattle.questions.specs.declared.Top.TheVariants as top
 use Rattle.rules.specs.Fit.{home_takes}
 use Rattle.moves.specs.Move.{to, card}
 use Rattle.moves.specs.Play.{there, takes}
@@ -29,7 +28,6 @@ use Rattle.generate.proofs.Gathering.{gather_none, gather_one}
 use Rattle.generate.proofs.Offering.{none_from, offer_value, offer_found}
 use Rattle.safe.specs.Safe.{safe, chosen, is_safe, home_moves, first_of, first_safe}
 use Rattle.safe.specs.Inner.{cards_at, home_move}
-use Rattle.safe.specs.declared.SafeMove.TheVariants.{Is, NoMove}
 use Rattle.safe.proofs.Places.{at_column, at_cell, column_home, cell_home}
 use Rattle.safe.proofs.Choosing.{chosen_one, none_more, first_none, first_at}
 
@@ -93,7 +91,7 @@ by_spot {P} b place h on = by_side (dec_lt place 8)
     by_side (no d) = on CellToHome (place - 8) (cell_spot b place (omega arith) h)
 
 -- the top card there
-abbrev pub top_at : Board → ℕ → Top
+abbrev pub top_at : Board → ℕ → Option Card
 top_at b place = top_of (cards_at b.cells (listed 8 (column_at b.counts b.tableau)) place)
 
 -- the card there goes home, and is safe
@@ -101,13 +99,13 @@ abbrev pub goes_home : Board → Card → Bool
 goes_home b c = home_takes b.foundation (code_of c) && safe b.foundation (code_of c)
 
 module _ {b : Board} (s : Sound b) {place : ℕ} (h : place < 12) where
-  none_there : top_at b place ≡ top.Empty → chosen (is_safe (shown b)) (home_from (shown b) place) ≡ []
+  none_there : top_at b place ≡ None → chosen (is_safe (shown b)) (home_from (shown b) place) ≡ []
   unfolding chosen
   none_there e =
       by_spot b place h
       (λ w i p. ap (chosen (is_safe (shown b))) (p.finds ∙ none_from (shown b) w i p.single p.below (ap top_of (sym p.lies) ∙ e)))
 
-  module _ {c : Card} (e : top_at b place ≡ top.Is c) where
+  module _ {c : Card} (e : top_at b place ≡ Some c) where
     offers : (w : Way) (i : ℕ) → Spot b place w i → Offers b w i 0 c
     offers w i p = record { sound = s; single = p.single; leaves = p.below; goes = p.goes; top = ap top_of (sym p.lies) ∙ e }
 
@@ -140,21 +138,21 @@ module _ {b : Board} (s : Sound b) {place : ℕ} (g : Passed b place) (h : place
   pass_on : chosen (is_safe (shown b)) (home_from (shown b) place) ≡ [] → Passed b (place + 1)
   pass_on e = record { upto = omega arith; none = none_more (is_safe (shown b)) (home_from (shown b)) place g.none e }
 
-  pub pass_empty : top_at b place ≡ top.Empty → Passed b (place + 1)
+  pub pass_empty : top_at b place ≡ None → Passed b (place + 1)
   pass_empty e = pass_on (none_there s h e)
 
-  module _ {c : Card} (e : top_at b place ≡ top.Is c) where
+  module _ {c : Card} (e : top_at b place ≡ Some c) where
     pub pass_unsafe : goes_home b c ≡ false → Passed b (place + 1)
     pass_unsafe q = pass_on (one_there s h e ∙ ap (λ (r : Bool). cond r (home_move place c ∷ []) []) q)
 
-    pub safe_here : goes_home b c ≡ true → first_safe (shown b) ≡ Is (home_move place c)
+    pub safe_here : goes_home b c ≡ true → first_safe (shown b) ≡ Some (home_move place c)
     unfolding first_safe first_of
     safe_here q =
         ap (λ (l : List Move). first_of (chosen (is_safe (shown b)) l)) (twelve (shown b))
         ∙ first_at (is_safe (shown b)) (home_from (shown b)) place 12 h g.none
         (ap first_of (one_there s h e ∙ ap (λ (r : Bool). cond r (home_move place c ∷ []) []) q))
 
-pub pass_all : {b : Board} {place : ℕ} → Passed b place → 12 ≤ place → first_safe (shown b) ≡ NoMove
+pub pass_all : {b : Board} {place : ℕ} → Passed b place → 12 ≤ place → first_safe (shown b) ≡ None
 unfolding first_safe
 pass_all {b} {place} g h =
     first_none

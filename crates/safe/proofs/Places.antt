@@ -1,4 +1,5 @@
 -- The twelve places: the card on top of each, and the move home from it.
+use Rattle.std.specs.Prelude.{Option}
 use mathlib.Core.Path.{◌≡◌, sym, ap, ◌∙◌}
 use mathlib.Core.List.{List, [], ◌∷◌}
 use Prim.Native.Nat.{ℕ, ◌-◌, ◌<◌, ◌≤◌}
@@ -9,7 +10,6 @@ use Rattle.card.specs.declared.Card.{Card}
 use Rattle.base.proofs.Words.{get_or-listed}
 use Rattle.board.specs.Table.{held}
 use Rattle.questions.specs.Questions.{top_of, cell_of}
-use Rattle.questions.specs.declared.Top.{Top}
 use Rattle.moves.specs.declared.Move.TheVariants.{TableauToFoundation, FreeCellToFoundation}
 use Rattle.play.proofs.Tops.{cell_top}
 use Rattle.safe.specs.Inner.{cards_at, home_move}
@@ -23,7 +23,7 @@ module _ (cells : List ℕ) (columns : List (List ℕ)) (place : ℕ) where
   unfolding cards_at
   at_cell h = rw (le-ltb place 8 h)
 
-module _ (cells : List ℕ) (column : ℕ → List ℕ) (place : ℕ) {r : Top} where
+module _ (cells : List ℕ) (column : ℕ → List ℕ) (place : ℕ) {r : Option Card} where
   pub column_place : place < 8 → r ≡ top_of (column place) → r ≡ top_of (cards_at cells (listed 8 column) place)
   column_place h e = e ∙ ap top_of (sym (at_column cells (listed 8 column) place h ∙ get_or-listed column 8 place [] h))
 

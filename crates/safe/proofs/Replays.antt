@@ -1,4 +1,5 @@
 -- The records of the chain, replayed, are the chain: the same number of moves, and the same board.
+use Rattle.std.specs.Prelude.{Ok}
 use mathlib.Core.Path.{◌≡◌, refl, sym, ap, ◌∙◌}
 use native.Mathlib.Omega.{arith}
 use lib.ListN.{length}
@@ -6,7 +7,6 @@ use Rattle.board.specs.Verdict.{fine}
 use Rattle.board.specs.Record.{shown, board_of}
 use Rattle.board.specs.Inner.{Sound}
 use Rattle.board.specs.declared.Board.{Board}
-use Rattle.board.specs.declared.Examined.TheVariants.{WellFormed}
 use Rattle.board.proofs.Soundness.{sound_fine}
 use Rattle.board.proofs.Fair.{shows_fair}
 use Rattle.replay.specs.Line.{line_from, replayed}
@@ -25,6 +25,6 @@ chain-replayed b s =
     let f = shows_fair s in
     let most = chain_most (shown b) f in
     let long = bytes_long (chain (shown b)) in
-    good_line b (bytes_of (chain (shown b))) {r = WellFormed} (sym (sound_fine s)) refl (a_line (bytes_of (chain (shown b))) (omega arith) (omega arith))
+    good_line b (bytes_of (chain (shown b))) {r = (Ok tt)} (sym (sound_fine s)) refl (a_line (bytes_of (chain (shown b))) (omega arith) (omega arith))
     ∙ ap (line_from b) (records_written (chain (shown b)))
     ∙ line_legal (chain (shown b)) b s (chain_legal (shown b) f)

@@ -1,4 +1,5 @@
 -- A first safe move can be said and is allowed, and brings one card home.
+use Rattle.std.specs.Prelude.{None, Some, Option}
 use mathlib.Core.Path.{◌≡◌, refl, subst}
 use mathlib.Core.Bool.{true}
 use mathlib.Core.Logic.{◌⊎◌, ⊎_elim}
@@ -21,8 +22,6 @@ use Rattle.generate.specs.declared.Way.TheVariants.{ColumnToColumn, ColumnToHome
 use Rattle.generate.proofs.Gathering.{in_either}
 use Rattle.generate.proofs.Members.{found-allowed, found_said}
 use Rattle.safe.specs.Safe.{is_safe, home_moves, first_safe}
-use Rattle.safe.specs.declared.SafeMove.{SafeMove}
-use Rattle.safe.specs.declared.SafeMove.TheVariants.{Is, NoMove}
 use Rattle.safe.proofs.Choosing.{first_in}
 
 -- from a column or a cell to a foundation
@@ -48,7 +47,7 @@ goes (FoundationToTableau s d c) = tt
 
 -- ---- the move
 
-module _ (t : Table) {m : Move} (e : first_safe t ≡ Is m) where
+module _ (t : Table) {m : Move} (e : first_safe t ≡ Some m) where
   found-home : is_in m (found t ColumnToHome) ⊎ is_in m (found t CellToHome)
   unfolding first_safe home_moves
   found-home = in_either m (found t ColumnToHome) (found t CellToHome) (first_in (is_safe t) (home_moves t) e)
@@ -79,12 +78,12 @@ module _ (t : Table) {m : Move} (e : first_safe t ≡ Is m) where
 -- ---- the 52 cards
 
 -- no move is left once all are home
-pub all-home : (t : Table) → Fair t → 52 ≤ home_count t.foundation → first_safe t ≡ NoMove
+pub all-home : (t : Table) → Fair t → 52 ≤ home_count t.foundation → first_safe t ≡ None
 all-home t f h = by_first (first_safe t) refl
   where
-    by_first : (r : SafeMove) → first_safe t ≡ r → first_safe t ≡ NoMove
-    by_first NoMove e = e
-    by_first (Is m) e =
+    by_first : (r : Option Move) → first_safe t ≡ r → first_safe t ≡ None
+    by_first None e = e
+    by_first (Some m) e =
         let n = one_more_home t e f in
         let k = home_52 (after_move t m).foundation (fair_piles (safe_fair t e f)) in
         absurd (let z : ⊥ = omega arith in z)

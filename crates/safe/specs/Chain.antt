@@ -1,16 +1,14 @@
 -- The safe chain: the first safe move, again and again.
-use Rattle.std.specs.Prelude.{List, [], ◌∷◌, ℕ, zero, suc}
+use Rattle.std.specs.Prelude.{List, [], ◌∷◌, ℕ, zero, suc, None, Some, Option}
 use Rattle.board.specs.Table.{Table}
 use Rattle.moves.specs.Play.{after_move}
 use Rattle.moves.specs.declared.Move.{Move}
 use Rattle.safe.specs.Safe.{first_safe}
-use Rattle.safe.specs.declared.SafeMove.{SafeMove}
-use Rattle.safe.specs.declared.SafeMove.TheVariants.{Is, NoMove}
 
 -- a move and then the rest from the table after it, or nothing
-abbrev pub and_on : Table → SafeMove → (Table → List Move) → List Move
-and_on t (Is m) rest = m ∷ rest (after_move t m)
-and_on t NoMove rest = []
+abbrev pub and_on : Table → Option Move → (Table → List Move) → List Move
+and_on t (Some m) rest = m ∷ rest (after_move t m)
+and_on t None rest = []
 
 -- at most n moves of the chain
 unfoldable pub chain_of : ℕ → Table → List Move

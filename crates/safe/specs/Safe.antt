@@ -1,5 +1,5 @@
 -- When a card may go home without a second thought.
-use Rattle.std.specs.Prelude.{Bool, cond, ◌||◌, List, [], ◌∷◌, ◌++◌, ℕ, ◌-◌, ◌/◌, ◌%◌, eqb, leb, get_or}
+use Rattle.std.specs.Prelude.{Bool, cond, ◌||◌, List, [], ◌∷◌, ◌++◌, ℕ, ◌-◌, ◌/◌, ◌%◌, eqb, leb, get_or, None, Some, Option}
 use Rattle.std.specs.Bool.{xor}
 use Rattle.base.specs.Words.{every}
 use Rattle.card.specs.Suit.{suit_at, color_of}
@@ -10,8 +10,6 @@ use Rattle.moves.specs.Move.{card}
 use Rattle.moves.specs.declared.Move.{Move}
 use Rattle.generate.specs.Found.{found}
 use Rattle.generate.specs.declared.Way.TheVariants.{ColumnToHome, CellToHome}
-use Rattle.safe.specs.declared.SafeMove.{SafeMove}
-use Rattle.safe.specs.declared.SafeMove.TheVariants.{Is, NoMove}
 
 -- a suit is red
 unfoldable pub red_suit : ℕ → Bool
@@ -39,10 +37,10 @@ is_safe t m = safe t.foundation (code_of (card m))
 unfoldable pub home_moves : Table → List Move
 home_moves t = found t ColumnToHome ++ found t CellToHome
 
-unfoldable pub first_of : List Move → SafeMove
-first_of [] = NoMove
-first_of (m ∷ ms) = Is m
+unfoldable pub first_of : List Move → Option Move
+first_of [] = None
+first_of (m ∷ ms) = Some m
 
 -- the first safe move: the lowest column's, else the lowest cell's
-unfoldable pub first_safe : Table → SafeMove
+unfoldable pub first_safe : Table → Option Move
 first_safe t = first_of (chosen (is_safe t) (home_moves t))

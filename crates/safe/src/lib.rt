@@ -3,44 +3,27 @@
 #![tactic(auto)]
 
 ghost use Rattle.std.specs.Prelude.{◌≡◌, true, ◌&&◌, ◌/◌, ◌<◌, ◌≤◌};
+ghost use Rattle.board.specs.Refusal.{answered};
 ghost use Rattle.base.specs.Words.{listed};
 ghost use Rattle.card.specs.Suit.{color_of};
 ghost use Rattle.card.specs.Card.{is_card, is_value, code_of};
-ghost use Rattle.board.specs.Verdict.{fine};
-ghost use Rattle.board.specs.Record.{examined, shown, column_at, laid};
+ghost use Rattle.board.specs.Record.{shown, column_at, laid};
 ghost use Rattle.board.specs.Inner.{GoodCells, GoodPiles, GoodColumns, Sound};
 ghost use Rattle.questions.specs.Questions.{top_of};
 ghost use Rattle.runs.specs.Follows.{is_red};
 ghost use Rattle.rules.specs.Fit.{home_takes};
-ghost use Rattle.rules.specs.Asked.{yes_told};
 ghost use Rattle.safe.specs.Safe.{needed, safe, first_safe};
 ghost use Rattle.safe.specs.Inner.{cards_at, home_move};
-ghost use Rattle.safe.specs.Asked.{safe_asked, first_asked, first_told, Runs, Chains};
+ghost use Rattle.safe.specs.Asked.{safe_asked, first_asked, chain_asked, chained, Runs};
 
 use board::verdict::inspect;
-use board::{Board, CODES, Examined, Refusal};
+use board::{Board, CODES, Refusal};
 use card::Card;
 use moves::Move;
-use questions::Top;
-use rules::YesNo;
-
-// The first safe move, if there is one: the Rust's `Option<FreeCellMove>`.
-#[derive(Clone, Copy)]
-pub enum SafeMove {
-    Is(Move),
-    NoMove,
-}
-
-#[derive(Clone, Copy)]
-pub enum SafeAnswer {
-    First(SafeMove),
-    Refused(Refusal),
-}
 
 // The board after the safe chain, and how many moves it had.
 #[derive(Clone, Copy)]
 pub struct Chained {
-    pub said: Examined,
     pub moves: usize,
     pub board: Board,
 }
@@ -67,10 +50,7 @@ fn needed_of(code: u8, s: u8) -> u8
 fn is_red(suit: card::Suit) -> bool
     ensures { result ≡ is_red (color_of suit) }
 {
-    match suit.color() {
-        card::Color::Red => true,
-        card::Color::Black => false,
-    }
+    matches!(suit.color(), card::Color::Red)
 }
 
 // A card may go home without a second thought.
@@ -82,14 +62,11 @@ pub fn is_safe_at(foundation: &[u8; 4], code: u8) -> bool
     if code / 16 <= 2 {
         return true;
     }
-    let mut s = 0u8;
-    while s < 4 {
-        let suit = base::wide(s);
-        let home = foundation[suit];
-        if home < needed_of(code, s) {
+    for s in 0u8..4 {
+        let suit = usize::from(s);
+        if foundation[suit] < needed_of(code, s) {
             return false;
         }
-        s += 1;
     }
     true
 }
@@ -100,7 +77,7 @@ fn top_at_place<'a>(
     counts: &'a [u8; 8],
     tableau: &'a [u8; CODES],
     place: usize,
-) -> Top
+) -> Option<Card>
     requires good_cells { GoodCells cells.now }
     requires good_columns { GoodColumns counts.now tableau.now }
     requires place_bound { place < 12 }
@@ -147,24 +124,19 @@ pub fn first_safe_at<'a>(
     foundation: &'a [u8; 4],
     counts: &'a [u8; 8],
     tableau: &'a [u8; CODES],
-) -> SafeMove
+) -> Option<Move>
     requires { Sound (laid cells.now foundation.now counts.now tableau.now) }
     ensures { result ≡ first_safe (shown (laid cells.now foundation.now counts.now tableau.now)) }
 {
-    let mut next = 0;
-    loop {
-        if 12 <= next {
-            break SafeMove::NoMove;
-        }
-        let place = next;
-        next += 1;
-        let Top::Is(card) = top_at_place(cells, counts, tableau, place) else {
+    for place in 0..12 {
+        let Some(card) = top_at_place(cells, counts, tableau, place) else {
             continue;
         };
         if goes_home(foundation, card) {
-            break SafeMove::Is(home_move(place, card));
+            return Some(home_move(place, card));
         }
     }
+    None
 }
 
 // The safe chain, played on a well formed board that lies in four arrays: how many moves it had.
@@ -177,21 +149,19 @@ pub fn chain_to(
     requires { Sound (laid cells.old foundation.old counts.old tableau.old) }
     ensures { Runs (laid cells.old foundation.old counts.old tableau.old) (laid cells.new foundation.new counts.new tableau.new) result }
 {
-    let mut moves = 0;
-    while moves < 52 {
-        let SafeMove::Is(m) = first_safe_at(cells, foundation, counts, tableau) else {
-            break;
+    for moves in 0..52 {
+        let Some(m) = first_safe_at(cells, foundation, counts, tableau) else {
+            return moves;
         };
         play::apply_to(m, cells, foundation, counts, tableau);
-        moves += 1;
     }
-    moves
+    52
 }
 
 // The safe chain on a well formed board.
 pub fn chain_at(b: Board) -> Chained
     requires { Sound b }
-    ensures chains { Chains fine b result }
+    ensures value { result ≡ chained b }
     ensures sound { Sound result.board }
 {
     let mut cells = b.cells;
@@ -205,50 +175,32 @@ pub fn chain_at(b: Board) -> Chained
         counts,
         tableau,
     };
-    Chained {
-        said: Examined::WellFormed,
-        moves,
-        board,
-    }
+    Chained { moves, board }
 }
 
 // 12 to 15, 30 for a code that is no card's, or whether a card is safe.
-pub fn is_safe(b: Board, code: u8) -> YesNo
-    ensures { yes_told result ≡ safe_asked b code }
+pub fn is_safe(b: Board, code: u8) -> Result<bool, Refusal>
+    ensures { answered result ≡ safe_asked b code }
 {
-    if let Examined::Refused(why) = inspect(&b.cells, &b.foundation, &b.counts, &b.tableau) {
-        return YesNo::Refused(why);
-    }
+    inspect(&b.cells, &b.foundation, &b.counts, &b.tableau)?;
     if !card::is_card(code) {
-        return YesNo::Refused(Refusal::OutOfRange);
+        return Err(Refusal::OutOfRange);
     }
-    if is_safe_at(&b.foundation, code) {
-        YesNo::Yes
-    } else {
-        YesNo::No
-    }
+    Ok(is_safe_at(&b.foundation, code))
 }
 
 // 12 to 15, or the first safe move, if there is one.
-pub fn first_safe_move(b: Board) -> SafeAnswer
-    ensures { first_told result ≡ first_asked b }
+pub fn first_safe_move(b: Board) -> Result<Option<Move>, Refusal>
+    ensures { answered result ≡ first_asked b }
 {
-    if let Examined::Refused(why) = inspect(&b.cells, &b.foundation, &b.counts, &b.tableau) {
-        return SafeAnswer::Refused(why);
-    }
-    SafeAnswer::First(first_safe_at(&b.cells, &b.foundation, &b.counts, &b.tableau))
+    inspect(&b.cells, &b.foundation, &b.counts, &b.tableau)?;
+    Ok(first_safe_at(&b.cells, &b.foundation, &b.counts, &b.tableau))
 }
 
 // 12 to 15, or the board after the safe chain.
-pub fn safe_chain(b: Board) -> Chained
-    ensures { Chains (examined b) b result }
+pub fn safe_chain(b: Board) -> Result<Chained, Refusal>
+    ensures { answered result ≡ chain_asked b }
 {
-    if let Examined::Refused(why) = inspect(&b.cells, &b.foundation, &b.counts, &b.tableau) {
-        return Chained {
-            said: Examined::Refused(why),
-            moves: 0,
-            board: b,
-        };
-    }
-    chain_at(b)
+    inspect(&b.cells, &b.foundation, &b.counts, &b.tableau)?;
+    Ok(chain_at(b))
 }

@@ -1,99 +1,121 @@
-// What programs write of lent memory: labels, numbers, how much of it is not zero, the words of a sheet.
+// What the test programs write: an answer as a number, bytes as digits, how much of lent memory is as it was.
 #![tactic(auto)]
 
-ghost use Rattle.std.specs.Prelude.{◌≤◌, length};
+ghost use Rattle.std.specs.Prelude.{◌≡◌, ◌≤◌, count_by, length};
 
-use std::io;
+use board::{Board, ROOM, Refusal};
+use card::Card;
+use std::{array, fmt};
 
-pub fn text(rt: &impl Print, s: &[u8]) -> io::Result<()> {
-    rt.write_all(s)
+// Bytes, two digits each.
+#[derive(Clone, Copy)]
+pub struct Hex<'a>(pub &'a [u8]);
+
+impl fmt::Display for Hex<'_> {
+    fn fmt<W: fmt::Write>(&self, f: &mut fmt::Formatter<W>) -> fmt::Result {
+        for byte in self.0 {
+            write!(f, "{byte:02x}")?;
+        }
+        Ok(())
+    }
 }
 
-// A number, with a space before it.
-pub fn number(rt: &impl Print, n: usize) -> io::Result<()> {
-    rt.write_all(b" ")?;
-    rt.print(n)
+// Things with a space between two of them.
+#[derive(Clone, Copy)]
+pub struct Spaced<'a, T>(pub &'a [T]);
+
+impl<T: fmt::Display> fmt::Display for Spaced<'_, T> {
+    fn fmt<W: fmt::Write>(&self, f: &mut fmt::Formatter<W>) -> fmt::Result {
+        for (i, thing) in self.0.iter().enumerate() {
+            if 0 < i {
+                write!(f, " ")?;
+            }
+            write!(f, "{thing}")?;
+        }
+        Ok(())
+    }
 }
 
-fn wide(x: u8) -> usize {
-    x as usize
-}
-
-pub fn byte(rt: &impl Print, n: u8) -> io::Result<()> {
-    number(rt, wide(n))
-}
-
-pub fn line_end(rt: &impl Print) -> io::Result<()> {
-    rt.write_all(b"\n")
-}
-
-pub fn one_if(so: bool) -> usize
-    ensures { result ≤ 1 }
+// How many of the items are this one.
+pub fn same<T: PartialEq>(items: &[T], one: &T) -> usize
+    ensures value { result ≡ count_by (λ x. T.eq x one.now) items.now }
+    ensures bound { result ≤ length items.now }
 {
-    if so {
-        return 1;
-    }
-    0
+    items.iter().filter(|x| *x == one).count()
 }
 
-// How many words are not zero.
-pub fn dirty_words(room: &[u32]) -> usize {
-    let mut n = 0;
-    let mut k = 0;
-    while k < room.len() {
-        n += one_if(room[k] != 0);
-        k += 1;
-    }
-    n
+// How many are not zero.
+pub fn dirty<T: Default + PartialEq + Drop>(room: &[T]) -> usize {
+    room.len() - same(room, &T::default())
 }
 
-pub fn dirty_longs(room: &[u64]) -> usize {
-    let zeros = equal_longs(room, 0);
-    room.len() - zeros
+// What stands for an answer that is refused: SCOPE.md's number.
+pub fn refusal(why: Refusal) -> usize {
+    usize::from(board::number(why))
 }
 
-pub fn dirty_bytes(room: &[u8]) -> usize {
-    let mut n = 0;
-    let mut k = 0;
-    while k < room.len() {
-        n += one_if(room[k] != 0);
-        k += 1;
-    }
-    n
+// 0 if it is fine.
+pub fn examined(said: Result<(), Refusal>) -> usize {
+    said.map_or_else(refusal, |()| 0)
 }
 
-// How many words hold a value.
-fn equal_longs(room: &[u64], value: u64) -> usize
-    ensures { result ≤ length room.now }
-{
-    let mut n = 0;
-    let mut k = 0;
-    while k < room.len() {
-        n += one_if(room[k] == value);
-        k += 1;
-    }
-    n
+pub fn count(answer: Result<usize, Refusal>) -> usize {
+    answer.unwrap_or_else(refusal)
 }
 
-// A word with its place, unless it is zero or rubbish.
-fn figure(rt: &impl Print, at: usize, value: u64, rubbish: u64) -> io::Result<()> {
-    if value == 0 {
-        return Ok(());
-    }
-    if value == rubbish {
-        return Ok(());
-    }
-    number(rt, at)?;
-    text(rt, b":")?;
-    rt.print(value)
+pub fn yes(answer: Result<bool, Refusal>) -> usize {
+    answer.map_or_else(refusal, usize::from)
 }
 
-// The words of a sheet that are neither zero nor what lay there before, each with its place, and the end of the line.
-pub fn sheet(rt: &impl Print, words: &[u64], rubbish: u64) -> io::Result<()> {
-    let mut k = 0;
-    while k < words.len() {
-        figure(rt, k, words[k], rubbish)?;
-        k += 1;
+pub fn code(card: Card) -> u8 {
+    card.encode().unwrap_or(0)
+}
+
+// A card by its code, 255 for no card.
+pub fn top(answer: Result<Option<Card>, Refusal>) -> usize {
+    match answer {
+        Ok(top) => top.map_or(255, |card| usize::from(code(card))),
+        Err(why) => refusal(why),
     }
-    line_end(rt)
+}
+
+// The first n records of lent room, and what lies behind them.
+pub fn records(room: &[u8], n: usize) -> (&[u8], &[u8]) {
+    room.split_at(n.saturating_mul(5).min(room.len()))
+}
+
+// The codes of each column, the deepest first, and its room above them.
+pub fn columns(b: &Board) -> [(&[u8], &[u8]); 8] {
+    array::from_fn(|i| {
+        let room = &b.tableau[i * ROOM..(i + 1) * ROOM];
+        room.split_at(usize::from(b.counts[i]).min(ROOM))
+    })
+}
+
+// What the columns show, what the cells show, how many cards of each suit are home.
+pub fn tops(b: Board) -> [usize; 8] {
+    array::from_fn(|i| top(questions::top_of_tableau(b, i)))
+}
+
+pub fn cells(b: Board) -> [usize; 4] {
+    array::from_fn(|i| top(questions::free_cell(b, i)))
+}
+
+pub fn home(b: Board) -> [usize; 4] {
+    array::from_fn(|i| count(questions::foundation_count(b, i)))
+}
+
+// The answers that ask for no place: all that are home, empty cells, empty columns, won.
+pub fn totals(b: Board) -> [usize; 4] {
+    [
+        count(questions::total_foundation_count(b)),
+        count(questions::empty_free_cells(b)),
+        count(questions::empty_tableau_columns(b)),
+        yes(questions::is_win(b)),
+    ]
+}
+
+// The codes of the pack: ace of clubs, diamonds, hearts, spades, then the twos, and so on.
+pub fn pack() -> [u8; 52] {
+    array::from_fn(|k| (16 * (k / 4 + 1) + k % 4) as u8)
 }

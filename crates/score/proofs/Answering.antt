@@ -1,4 +1,5 @@
 -- What is asked of a board, from the features told: refused first, else known to be small.
+use Rattle.std.specs.Prelude.{Err, Ok, Result}
 use mathlib.Core.Path.{◌≡◌, refl, sym, ap, ◌∙◌, subst}
 use mathlib.Core.List.{List}
 use Prim.Native.Nat.{ℕ, ◌+◌, ◌<◌, ◌≤◌}
@@ -8,19 +9,16 @@ use lib.ListN.{length}
 use Rattle.base.specs.Answer.{Answer, given, refused}
 use Rattle.board.specs.Verdict.{Verdict, fine, after}
 use Rattle.board.specs.Record.{shown, examined}
-use Rattle.board.specs.Refusal.{number_of}
+use Rattle.board.specs.Refusal.{number_of, answered}
 use Rattle.board.specs.Inner.{Sized}
 use Rattle.board.specs.declared.Board.{Board}
 use Rattle.board.specs.declared.Refusal.{Refusal}
 use Rattle.board.proofs.Soundness.{sound}
-use Rattle.questions.specs.declared.CountAnswer.TheVariants.{Count, Refused}
 use Rattle.features.specs.Features.{features_of, Bounded}
 use Rattle.score.specs.Token.{token_of}
 use Rattle.base.specs.Put.{Puts}
-use Rattle.score.specs.Asked.{features_asked, features_told, token_asked, room_after, Writes}
+use Rattle.score.specs.Asked.{features_asked, token_asked, room_after, Writes}
 use Rattle.features.specs.declared.Features.{Features}
-use Rattle.score.specs.declared.FeaturesAnswer.{FeaturesAnswer}
-use Rattle.score.specs.declared.FeaturesAnswer.TheVariants as features
 use Rattle.features.proofs.Bounds.{bounded}
 use Rattle.base.proofs.Putting.{puts_same, puts_over}
 
@@ -36,15 +34,15 @@ after_refused (refused m) x e = cc
 
 -- ---- the features told decide
 
-module _ (b : Board) {r : FeaturesAnswer} (e : features_told r ≡ features_asked b) where
-  pub told_no : {A : Type 0} (a : Answer A) {why : Refusal} → r ≡ features.Refused why → refused (number_of why) ≡ after (examined b) a
+module _ (b : Board) {r : Result Features Refusal} (e : answered r ≡ features_asked b) where
+  pub told_no : {A : Type 0} (a : Answer A) {why : Refusal} → r ≡ Err why → refused (number_of why) ≡ after (examined b) a
   unfolding features_asked
-  told_no a q = ap (λ (v : Verdict). after v a) (after_refused (examined b) (features_of (shown b)) (ap features_told (sym q) ∙ e))
+  told_no a q = ap (λ (v : Verdict). after v a) (after_refused (examined b) (features_of (shown b)) (ap answered (sym q) ∙ e))
 
-  module _ {f : Features} (q : r ≡ features.Are f) where
+  module _ {f : Features} (q : r ≡ Ok f) where
     told_yes : (examined b ≡ fine) × (f ≡ features_of (shown b))
     unfolding features_asked
-    told_yes = after_given (examined b) (features_of (shown b)) (ap features_told (sym q) ∙ e)
+    told_yes = after_given (examined b) (features_of (shown b)) (ap answered (sym q) ∙ e)
 
     pub told_given : {A : Type 0} (a : Features → Answer A) → a f ≡ after (examined b) (a (features_of (shown b)))
     told_given a = ap a told_yes.1 ∙ sym (ap (λ (v : Verdict). after v (a (features_of (shown b)))) told_yes.0)
@@ -58,19 +56,19 @@ module _ (b : Board) {r : FeaturesAnswer} (e : features_told r ≡ features_aske
 -- ---- the token: 21 for too little room
 
 module _ (b : Board) (old : List ℕ) where
-  pub writes_no : {why : Refusal} → refused (number_of why) ≡ token_asked b (length old) → Writes b old old (Refused why)
+  pub writes_no : {why : Refusal} → refused (number_of why) ≡ token_asked b (length old) → Writes b old old (Err why)
   writes_no e = record { told = e; room = ap (λ (a : Answer ℕ). room_after a old (token_of (features_of (shown b)))) e }
 
-  module _ {r : FeaturesAnswer} (e : features_told r ≡ features_asked b) where
-    pub token_refused : {why : Refusal} → r ≡ features.Refused why → refused (number_of why) ≡ token_asked b (length old)
+  module _ {r : Result Features Refusal} (e : answered r ≡ features_asked b) where
+    pub token_refused : {why : Refusal} → r ≡ Err why → refused (number_of why) ≡ token_asked b (length old)
     unfolding token_asked
     token_refused q = told_no b e _ q
 
-    pub token_short : {f : Features} → r ≡ features.Are f → length old < 32 → refused 21 ≡ token_asked b (length old)
+    pub token_short : {f : Features} → r ≡ Ok f → length old < 32 → refused 21 ≡ token_asked b (length old)
     unfolding token_asked
     token_short q h = rw (lt-leb 32 (length old) h) (told_given b e q (λ f. refused 21))
 
-    pub writes_yes : {f : Features} → r ≡ features.Are f → 32 ≤ length old → {new : List ℕ} {n : ℕ} → Puts old new 0 n (token_of f) → Writes b old new (Count n)
+    pub writes_yes : {f : Features} → r ≡ Ok f → 32 ≤ length old → {new : List ℕ} {n : ℕ} → Puts old new 0 n (token_of f) → Writes b old new (Ok n)
     unfolding token_asked
     writes_yes {f} q h {new} {n} p =
         record {

@@ -1,11 +1,11 @@
 -- Decimal digits of a number below a thousand, and how long a token is.
 use mathlib.Core.Path.{◌≡◌, sym, ap, ◌∙◌}
 use mathlib.Core.List.{List, [], ◌∷◌, ◌++◌}
-use Prim.Native.Nat.{ℕ, suc, ◌+◌, ◌/◌, ◌%◌, ◌<◌, ◌≤◌}
+use Prim.Native.Nat.{ℕ, suc, ◌+◌, ◌-◌, ◌/◌, ◌%◌, ◌<◌, ◌≤◌}
 use native.Mathlib.Omega.{arith}
 use native.Mathlib.Decide.{dec_lt}
 use borrow.Author.Tests.{lt-ltb, le-ltb}
-use lib.ListN.{length, length-append}
+use lib.ListN.{length, take, drop, length-append}
 use Rattle.base.specs.Words.{concat}
 use Rattle.features.specs.Features.{Bounded}
 use Rattle.score.specs.Token.{digits_in, decimal, token_of}
@@ -30,7 +30,7 @@ decimal_two n l h =
     (digits_more 19 n l
     ∙ ap (λ (d : List ℕ). d ++ ((48 + n % 10) ∷ [])) (digits_one 18 (n / 10) (omega arith) ∙ ap (λ (k : ℕ). (48 + k) ∷ []) (let q : n / 10 ≡ n / 10 % 10 = omega arith in q)))
 
-pub decimal-three : (n : ℕ) → 100 ≤ n → n < 1000 → (48 + n / 100 % 10) ∷ (48 + n / 10 % 10) ∷ (48 + n % 10) ∷ [] ≡ decimal n
+pub decimal-three : (n : ℕ) → 100 ≤ n → n < 1000 → (48 + n / 100) ∷ (48 + n / 10 % 10) ∷ (48 + n % 10) ∷ [] ≡ decimal n
 unfolding decimal
 decimal-three n l h =
     sym
@@ -38,7 +38,21 @@ decimal-three n l h =
     ∙ ap (λ (d : List ℕ). d ++ ((48 + n % 10) ∷ []))
     (digits_more 18 (n / 10) (omega arith)
     ∙ ap (λ (d : List ℕ). d ++ ((48 + n / 10 % 10) ∷ []))
-    (digits_one 17 (n / 10 / 10) (omega arith) ∙ ap (λ (k : ℕ). (48 + k) ∷ []) (let q : n / 10 / 10 ≡ n / 100 % 10 = omega arith in q))))
+    (digits_one 17 (n / 10 / 10) (omega arith) ∙ ap (λ (k : ℕ). (48 + k) ∷ []) (let q : n / 10 / 10 ≡ n / 100 = omega arith in q))))
+
+-- the three digits, of which the first `leading` are left out
+module _ (n leading : ℕ) {a b c : ℕ} (hundreds : a ≡ 48 + n / 100) (tens : b ≡ 48 + n / 10 % 10) (ones : c ≡ 48 + n % 10) where
+  abbrev shown : List ℕ
+  shown = take (3 - leading) (drop leading (a ∷ b ∷ c ∷ []))
+
+  pub shown_one : leading ≡ 2 → n ≤ 9 → shown ≡ decimal n
+  shown_one e h = rw e (rw ones (decimal_one n (omega arith)))
+
+  pub shown_two : leading ≡ 1 → 10 ≤ n → n ≤ 99 → shown ≡ decimal n
+  shown_two e l h = rw e (rw (tens, ones) (decimal_two n l (omega arith)))
+
+  pub shown_three : leading ≡ 0 → 100 ≤ n → n < 1000 → shown ≡ decimal n
+  shown_three e l h = rw e (rw (hundreds, tens, ones) (decimal-three n l h))
 
 -- ---- lengths
 

@@ -5,10 +5,10 @@ use native.Mathlib.Nat.{lt_of_le_of_lt}
 use native.Mathlib.Omega.{arith}
 use native.Mathlib.Decide.{dec_lt}
 use lib.Dec.{lit<}
-use lib.IntN.{ℤ, pos, negsuc, sub_ℕ, ◌-ℤ◌}
+use lib.IntN.{ℤ, sub_ℕ}
 use mir.Syntax.{w64}
 use mir.Val.{SFits, to_z, of_z, hbits}
-use mir.Facts.{to_z_pos, to_z-of_z}
+use mir.Facts.{to_z-of_z}
 use Rattle.features.specs.Features.{Bounded}
 use Rattle.score.specs.Scores.{heuristic_adds, heuristic_takes, heuristic, progress_adds, progress_takes, progress}
 use Rattle.features.specs.declared.Features.{Features}
@@ -16,21 +16,6 @@ use Rattle.score.proofs.Keys.{sub_below, sub_above, heuristic_adds_most, heurist
 
 small : (n : ℕ) → n ≤ 1000000 → n < 2 ^ hbits w64
 small n h = lt_of_le_of_lt h (lit< tt)
-
-pub signed_above : (a t : ℕ) → t ≤ a → a ≤ 1000000 → to_z w64 (a - t) ≡ sub_ℕ a t
-signed_above a t h b = to_z_pos w64 (small (a - t) (omega arith)) ∙ sym (sub_above a t h)
-
-module _ (a t : ℕ) (h : a < t) (b : t ≤ 1000000) where
-  negated : pos 0 -ℤ to_z w64 (t - a) ≡ negsuc (t - suc a)
-  negated =
-      ap (λ (z : ℤ). pos 0 -ℤ z) (to_z_pos w64 (small (t - a) (omega arith)) ∙ ap pos (let q : t - a ≡ suc (t - suc a) = omega arith in q))
-      ∙ sub_below 0 (suc (t - suc a)) (omega arith) ∙ ap negsuc (let q : suc (t - suc a) - 1 ≡ t - suc a = omega arith in q)
-
-  pub below_fits : SFits w64 (pos 0 -ℤ to_z w64 (t - a))
-  below_fits = subst (SFits w64) (sym negated) (record { sfits = small (t - suc a) (omega arith) })
-
-  pub signed_below : to_z w64 (of_z w64 (pos 0 -ℤ to_z w64 (t - a))) ≡ sub_ℕ a t
-  signed_below = to_z-of_z {w = w64} below_fits ∙ negated ∙ sym (sub_below a t h)
 
 -- a score passed on as a word
 pub sub_fits : (a t : ℕ) → a ≤ 1000000 → t ≤ 1000000 → SFits w64 (sub_ℕ a t)

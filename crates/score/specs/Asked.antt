@@ -1,20 +1,15 @@
 -- Features, scores and token as they are asked for: 12 to 15 if the board is not fine; for the token then 21 for too little room.
-use Rattle.std.specs.Prelude.{◌≡◌, List, ℕ, leb, ℤ, length}
+use Rattle.board.specs.declared.Refusal.{Refusal}
+use Rattle.std.specs.Prelude.{◌≡◌, List, ℕ, leb, ℤ, length, Result}
 use Rattle.base.specs.Answer.{Answer, given, refused, unless}
 use Rattle.board.specs.Verdict.{after}
 use Rattle.board.specs.Record.{examined, shown}
-use Rattle.board.specs.Refusal.{number_of}
+use Rattle.board.specs.Refusal.{answered}
 use Rattle.board.specs.declared.Board.{Board}
-use Rattle.questions.specs.Told.{count_told}
-use Rattle.questions.specs.declared.CountAnswer.{CountAnswer}
 use Rattle.features.specs.Features.{features_of}
 use Rattle.score.specs.Scores.{heuristic, progress}
 use Rattle.score.specs.Token.{token_of}
 use Rattle.features.specs.declared.Features.{Features}
-use Rattle.score.specs.declared.FeaturesAnswer.{FeaturesAnswer}
-use Rattle.score.specs.declared.FeaturesAnswer.TheVariants as features
-use Rattle.score.specs.declared.ScoreAnswer.{ScoreAnswer}
-use Rattle.score.specs.declared.ScoreAnswer.TheVariants as score
 use Rattle.base.specs.Put.{over}
 
 unfoldable pub features_asked : Board → Answer Features
@@ -25,14 +20,6 @@ heuristic_asked b = after (examined b) (given (heuristic (features_of (shown b))
 
 unfoldable pub progress_asked : Board → Answer ℤ
 progress_asked b = after (examined b) (given (progress (features_of (shown b))))
-
-abbrev pub features_told : FeaturesAnswer → Answer Features
-features_told (features.Are f) = given f
-features_told (features.Refused why) = refused (number_of why)
-
-abbrev pub score_told : ScoreAnswer → Answer ℤ
-score_told (score.Score n) = given n
-score_told (score.Refused why) = refused (number_of why)
 
 -- ---- the token, into lent room
 
@@ -49,6 +36,6 @@ room_after (given n) old new = over new old
 room_after (refused n) old new = old
 
 -- the token is written: the number of bytes told, and the room left
-pub record Writes (b : Board) (old new : List ℕ) (r : CountAnswer) : Type 0 where
-  pub told : count_told r ≡ token_asked b (length old)
+pub record Writes (b : Board) (old new : List ℕ) (r : Result ℕ Refusal) : Type 0 where
+  pub told : answered r ≡ token_asked b (length old)
   pub room : new ≡ room_after (token_asked b (length old)) old (token_of (features_of (shown b)))

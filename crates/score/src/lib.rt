@@ -2,72 +2,58 @@
 #![tactic(auto)]
 
 ghost use Rattle.std.specs.Prelude.{◌≡◌};
-ghost use Rattle.score.specs.Asked.{features_asked, features_told, heuristic_asked, progress_asked, score_told, Writes};
+ghost use Rattle.board.specs.Refusal.{answered};
+ghost use Rattle.score.specs.Asked.{features_asked, heuristic_asked, progress_asked, Writes};
 
 use board::verdict::inspect;
-use board::{Board, Examined, Refusal};
+use board::{Board, Refusal};
 use features::Features;
-use questions::CountAnswer;
 
 pub mod scores;
 pub mod token;
 pub mod weights;
 
-#[derive(Clone, Copy)]
-pub enum FeaturesAnswer {
-    Are(Features),
-    Refused(Refusal),
-}
-
-#[derive(Clone, Copy)]
-pub enum ScoreAnswer {
-    Score(i64),
-    Refused(Refusal),
-}
-
 // 12 to 15, or the features of a board.
-pub fn features_of(b: Board) -> FeaturesAnswer
-    ensures { features_told result ≡ features_asked b }
+pub fn features_of(b: Board) -> Result<Features, Refusal>
+    ensures { answered result ≡ features_asked b }
 {
-    if let Examined::Refused(why) = inspect(&b.cells, &b.foundation, &b.counts, &b.tableau) {
-        return FeaturesAnswer::Refused(why);
-    }
+    inspect(&b.cells, &b.foundation, &b.counts, &b.tableau)?;
     let f = features::compute_features(&b.cells, &b.foundation, &b.counts, &b.tableau);
-    FeaturesAnswer::Are(f)
+    Ok(f)
 }
 
 // 12 to 15, or the heuristic of a board.
-pub fn heuristic_of(b: Board) -> ScoreAnswer
-    ensures { score_told result ≡ heuristic_asked b }
+pub fn heuristic_of(b: Board) -> Result<i64, Refusal>
+    ensures { answered result ≡ heuristic_asked b }
 {
     match features_of(b) {
-        FeaturesAnswer::Are(f) => ScoreAnswer::Score(scores::heuristic_cost(f)),
-        FeaturesAnswer::Refused(why) => ScoreAnswer::Refused(why),
+        Ok(f) => Ok(scores::heuristic_cost(f)),
+        Err(why) => Err(why),
     }
 }
 
 // 12 to 15, or the progress score of a board.
-pub fn progress_of(b: Board) -> ScoreAnswer
-    ensures { score_told result ≡ progress_asked b }
+pub fn progress_of(b: Board) -> Result<i64, Refusal>
+    ensures { answered result ≡ progress_asked b }
 {
     match features_of(b) {
-        FeaturesAnswer::Are(f) => ScoreAnswer::Score(scores::progress_score(f)),
-        FeaturesAnswer::Refused(why) => ScoreAnswer::Refused(why),
+        Ok(f) => Ok(scores::progress_score(f)),
+        Err(why) => Err(why),
     }
 }
 
 // 12 to 15, 21, or the token of a board; answers how many bytes it has.
-pub fn progress_token(b: Board, out: &mut [u8]) -> CountAnswer
+pub fn progress_token(b: Board, out: &mut [u8]) -> Result<usize, Refusal>
     ensures { Writes b out.old out.new result }
 {
     match features_of(b) {
-        FeaturesAnswer::Are(f) => {
+        Ok(f) => {
             if out.len() < 32 {
-                return CountAnswer::Refused(Refusal::LittleRoom);
+                return Err(Refusal::LittleRoom);
             }
             let written = token::token_at(f, out);
-            CountAnswer::Count(written)
+            Ok(written)
         }
-        FeaturesAnswer::Refused(why) => CountAnswer::Refused(why),
+        Err(why) => Err(why),
     }
 }

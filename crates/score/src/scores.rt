@@ -13,12 +13,7 @@ pub fn signed(adds: usize, takes: usize) -> i64
     requires takes_bound { takes ≤ 1000000 }
     ensures { result ≡ sub_ℕ adds takes }
 {
-    if takes <= adds {
-        let over = adds - takes;
-        return over as i64;
-    }
-    let under = takes - adds;
-    0 - under as i64
+    adds as i64 - takes as i64
 }
 
 fn heuristic_adds(f: Features) -> usize

@@ -12,8 +12,7 @@ fn digit(n: usize) -> u8
     requires { n < 10 }
     ensures { result ≡ 48 + n }
 {
-    let low = n as u8;
-    48 + low
+    b'0' + n as u8
 }
 
 // A number of at most three digits, at a place.
@@ -22,19 +21,13 @@ pub fn put_number(out: &mut [u8], at: usize, n: usize) -> usize
     requires n_in_bounds { at + length (decimal n) ≤ length out.old }
     ensures { Puts out.old out.new at result (decimal n) }
 {
-    let ones = digit(n % 10);
-    let tens = digit(n / 10 % 10);
-    let hundreds = digit(n / 100 % 10);
-    if n < 10 {
-        let text = [ones];
-        return put_bytes(out, at, &text);
-    }
-    if n < 100 {
-        let text = [tens, ones];
-        return put_bytes(out, at, &text);
-    }
-    let text = [hundreds, tens, ones];
-    put_bytes(out, at, &text)
+    let digits = [digit(n / 100), digit(n / 10 % 10), digit(n % 10)];
+    let leading = match n {
+        0..=9 => 2,
+        10..=99 => 1,
+        _ => 0,
+    };
+    put_bytes(out, at, &digits[leading..])
 }
 
 // A label and its number.

@@ -1,17 +1,16 @@
 -- What is refused, in order, and what is given.
+use Rattle.std.specs.Prelude.{Err, Ok}
 use mathlib.Core.Path.{◌≡◌, refl, sym, ap, ◌∙◌}
-use mathlib.Core.Bool.{Bool, true, false, not, ◌&&◌}
+use mathlib.Core.Bool.{Bool, true, false, not}
 use mathlib.Core.List.{List}
 use Prim.Native.Nat.{ℕ, ◌<◌, ◌≤◌}
 use native.Mathlib.Omega.{arith}
-use native.Mathlib.Decide.{dec_lt}
-use borrow.Author.Tests.{le-leb, lt-leb, lt-ltb, le-ltb, leb-true}
-use lib.Dec.{leb, ltb}
+use borrow.Author.Tests.{le-leb, lt-leb, leb-true}
+use lib.Dec.{leb}
 use Rattle.base.specs.Answer.{Answer, given, refused}
 use Rattle.base.proofs.Words.{first, second}
 use Rattle.board.specs.Refusal.{number_of}
 use Rattle.board.specs.declared.Refusal.{Refusal}
-use Rattle.board.specs.declared.Examined.TheVariants.{WellFormed, Refused}
 use Rattle.intake.specs.Number.{is_number}
 use Rattle.sheets.specs.Over.{sheet_over, between}
 use Rattle.sheets.specs.Promises.{said_of}
@@ -21,21 +20,6 @@ use Rattle.season.specs.Inner.{settings_of, Accepts}
 -- ---- one number
 
 module _ (n : ℕ) where
-  pub none_zero : n ≡ 0 → true ≡ not (is_number n)
-  unfolding is_number
-  none_zero e = rw (lt-leb 1 n (omega arith))
-
-  pub none_over : (n ≡ 0 → ⊥) → ltb 32000 n ≡ not (is_number n)
-  unfolding is_number
-  none_over d = by (dec_lt 32000 n)
-    where
-      some : 1 ≤ n
-      some = omega arith
-
-      by : Dec (32000 < n) → ltb 32000 n ≡ not (leb 1 n && leb n 32000)
-      by (yes h) = rw (lt-ltb 32000 n h, le-leb 1 n some, lt-leb n 32000 h)
-      by (no h) = rw (le-ltb 32000 n (omega arith), le-leb 1 n some, le-leb n 32000 (omega arith))
-
   pub is_none : {w : Bool} → w ≡ not (is_number n) → w ≡ true → is_number n ≡ false
   is_none e q = by (is_number n) (sym e ∙ q)
     where
@@ -73,7 +57,7 @@ module _ (from to budget capacity words : ℕ) where
   unfolding season_asked
   no_first e partial = rw e
 
-  pub accepts_no : (why : Refusal) → ((partial : Bool) → asked partial ≡ refused (number_of why)) → Accepts from to budget capacity words (Refused why)
+  pub accepts_no : (why : Refusal) → ((partial : Bool) → asked partial ≡ refused (number_of why)) → Accepts from to budget capacity words (Err why)
   accepts_no why e =
       record {
         told = λ partial. sym (ap said_of (e partial));
@@ -109,7 +93,7 @@ module _ (from to budget capacity words : ℕ) where
           unfolding season_asked
           all_given l partial = rw (e, f, le-leb budget 1000000 h, le-leb 716 words k, le-leb 1 capacity l)
 
-          pub accepts_yes : 1 ≤ capacity → Accepts from to budget capacity words WellFormed
+          pub accepts_yes : 1 ≤ capacity → Accepts from to budget capacity words (Ok tt)
           accepts_yes l =
               record {
                 told = λ partial. sym (ap said_of (all_given l partial));

@@ -12,12 +12,14 @@ use Rattle.board.specs.Table.{Table}
 use Rattle.board.specs.Record.{shown, board_of}
 use Rattle.board.specs.Inner.{Sound}
 use Rattle.board.specs.declared.Board.{Board}
+use Rattle.std.specs.Prelude.{Result, Ok}
+use Rattle.board.specs.Refusal.{answered}
+use Rattle.board.specs.declared.Refusal.{Refusal}
+use Rattle.board.proofs.Unique.{answered_once}
 use Rattle.board.proofs.Records.{shown_of_record}
 use Rattle.board.proofs.Fair.{fair_laid}
 use Rattle.intake.specs.Deal.{dealt}
 use Rattle.intake.specs.Number.{is_number, number_asked}
-use Rattle.intake.specs.Handed.{Hands, beside}
-use Rattle.intake.specs.declared.Reading.{Reading}
 use Rattle.intake.proofs.Accepted.{fine_sound}
 use Rattle.intake.proofs.Numbers.{number_given, number_fair, number_fine}
 use Rattle.moves.specs.declared.Move.{Move}
@@ -42,15 +44,19 @@ dealt-shown n = shown_of_record (dealt (deck_of n)) (fair_laid (dealt (deck_of n
 pub dealt_sound : (n : ℕ) → Sound (board_of (dealt (deck_of n)))
 dealt_sound n = fine_sound (number_fine n)
 
-module _ (n : ℕ) {r : Reading} (h : Hands (number_asked n) r) (ok : is_number n ≡ true) where
-  pub hand_board : r.board ≡ board_of (dealt (deck_of n))
-  hand_board = h.board ∙ ap beside (number_given n ok)
+module _ (n : ℕ) {r : Result Board Refusal} (h : answered r ≡ number_asked n) (ok : is_number n ≡ true) where
+  pub hand_is : r ≡ Ok (board_of (dealt (deck_of n)))
+  hand_is = answered_once {r = r} {s = Ok (board_of (dealt (deck_of n)))} h (sym (number_given n ok))
 
-  pub hand_sound : Sound r.board
-  hand_sound = subst Sound (sym hand_board) (dealt_sound n)
+  module _ {b : Board} (q : r ≡ Ok b) where
+    hand_board : b ≡ board_of (dealt (deck_of n))
+    hand_board = let e = hand_is in cc
 
-  pub hand-shown : shown r.board ≡ dealt (deck_of n)
-  hand-shown = ap shown hand_board ∙ dealt-shown n
+    pub hand_sound : Sound b
+    hand_sound = subst Sound (sym hand_board) (dealt_sound n)
+
+    pub hand-shown : shown b ≡ dealt (deck_of n)
+    hand-shown = ap shown hand_board ∙ dealt-shown n
 
 -- ---- its answer
 
@@ -91,12 +97,17 @@ module _ (s : Settings) (n : ℕ) where
       }
 
   -- what was found for its board is what it gives
-  pub found_result : (b : Board) {old new : List ℕ} {j : Judged} {k : ℕ} → Gives (judge (shown b) s.budget s.capacity s.partial) old new j
-      → shown b ≡ dealt (deck_of n) → k ≡ said_number j.said → record { answer = k; pops = j.pops; moves = j.moves } ≡ result_of s n
-  unfolding result_of
-  found_result b {j = j} {k = k} g e q =
-      let a = q ∙ g.number in
-      let p = g.pops in
-      let m = g.moves in
-      let w : record { answer = k; pops = j.pops; moves = j.moves } ≡ result_by (judge (shown b) s.budget s.capacity s.partial) = cc in
-      w ∙ ap (λ (t : Table). result_by (judge t s.budget s.capacity s.partial)) e
+  module _ (b : Board) (e : shown b ≡ dealt (deck_of n)) where
+    abbrev sought : solve.Answer freecell
+    sought = judge (shown b) s.budget s.capacity s.partial
+
+    pub result_found : {k p m : ℕ} → k ≡ sought.number → p ≡ sought.pops → m ≡ length (moves_of sought.list)
+        → record { answer = k; pops = p; moves = m } ≡ result_of s n
+    unfolding result_of
+    result_found {k} {p} {m} x y z =
+        let w : record { answer = k; pops = p; moves = m } ≡ result_by sought = cc in
+        w ∙ ap (λ (t : Table). result_by (judge t s.budget s.capacity s.partial)) e
+
+    pub found_result : {old new : List ℕ} {j : Judged} {k : ℕ} → Gives sought old new j → k ≡ said_number j.said
+        → record { answer = k; pops = j.pops; moves = j.moves } ≡ result_of s n
+    found_result g q = result_found (q ∙ g.number) g.pops g.moves

@@ -1,4 +1,5 @@
 -- What a season that is given fulfils, and what `season` leaves.
+use Rattle.std.specs.Prelude.{Err, Ok, Result}
 use mathlib.Core.Path.{◌≡◌, refl, sym, ap, ◌∙◌}
 use mathlib.Core.Bool.{Bool, true, ◌&&◌}
 use mathlib.Core.List.{List, ◌++◌}
@@ -15,10 +16,8 @@ use Rattle.base.proofs.Answers.{given_by}
 use Rattle.base.proofs.Clearing.{blank_same}
 use Rattle.base.proofs.Words.{first, second}
 use Rattle.board.specs.Verdict.{fine}
-use Rattle.board.specs.Refusal.{number_of, examined_told}
+use Rattle.board.specs.Refusal.{number_of, answered}
 use Rattle.board.specs.declared.Refusal.{Refusal}
-use Rattle.board.specs.declared.Examined.{Examined}
-use Rattle.board.specs.declared.Examined.TheVariants.{WellFormed, Refused}
 use Rattle.intake.specs.Number.{is_number}
 use Rattle.memory.specs.declared.Room.{Room}
 use Rattle.solver.specs.Capacity.{entries_of}
@@ -66,23 +65,23 @@ said_yes (refused m) e = let z : ◌≡◌ {A = ℕ} 0 1 = cc in absurd (let w :
 
 -- ---- what is left
 
-module _ (old : Lent) (from to budget : ℕ) (partial : Bool) {capacity : ℕ} {e : Examined} (q : capacity ≡ (settings_in old budget partial).capacity)
+module _ (old : Lent) (from to budget : ℕ) (partial : Bool) {capacity : ℕ} {e : Result (Unit {0}) Refusal} (q : capacity ≡ (settings_in old budget partial).capacity)
     (a : Accepts from to budget capacity (length old.sheet) e) where
-  told_here : examined_told e ≡ said_of (season_in old from to budget partial)
+  told_here : answered e ≡ said_of (season_in old from to budget partial)
   unfolding season_in
   told_here = a.told partial ∙ ap (λ (c : ℕ). said_of (season_asked from to (settings_of budget c partial) (length old.sheet))) q
 
-  pub leaves_refused : {why : Refusal} → e ≡ Refused why → Leaves old old from to budget partial (Refused why)
+  pub leaves_refused : {why : Refusal} → e ≡ Err why → Leaves old old from to budget partial (Err why)
   leaves_refused {why} r =
-      let t = ap examined_told (sym r) ∙ told_here in
+      let t = ap answered (sym r) ∙ told_here in
       record { said = t; left = sym (ap (left_by old) (said_no (season_in old from to budget partial) (number_of why) t)) }
 
-  pub leaves_given : (n h k c : List ℕ) {room : Room} {n' h' k' c' words : List ℕ} → e ≡ WellFormed → room ≡ record { capacity = capacity; entries = entries_of capacity }
+  pub leaves_given : (n h k c : List ℕ) {room : Room} {n' h' k' c' words : List ℕ} → e ≡ Ok tt → room ≡ record { capacity = capacity; entries = entries_of capacity }
       → words ≡ sheet_over (settings_of budget room.capacity partial) (result_of (settings_of budget room.capacity partial)) (between from to)
       → length words ≡ length (take 716 old.sheet)
       → length n ≡ length old.nodes → n' ≡ blank n → length h ≡ length old.heap → h' ≡ blank h
       → length k ≡ length old.keys → k' ≡ blank k → length c ≡ length old.costs → c' ≡ blank c
-      → Leaves old (record { nodes = n'; heap = h'; keys = k'; costs = c'; sheet = words ++ drop 716 old.sheet }) from to budget partial WellFormed
+      → Leaves old (record { nodes = n'; heap = h'; keys = k'; costs = c'; sheet = words ++ drop 716 old.sheet }) from to budget partial (Ok tt)
   unfolding season_in over
   leaves_given n h k c {room} {n'} {h'} {k'} {c'} {words} r y w l ln bn lh bh lk bk lc bc =
       record {
@@ -91,7 +90,7 @@ module _ (old : Lent) (from to budget : ℕ) (partial : Bool) {capacity : ℕ} {
       }
     where
       t : fine ≡ said_of (season_in old from to budget partial)
-      t = ap examined_told (sym r) ∙ told_here
+      t = ap answered (sym r) ∙ told_here
 
       is : (x : List ℕ) × (season_in old from to budget partial ≡ given x)
       is = said_yes (season_in old from to budget partial) t

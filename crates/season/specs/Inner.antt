@@ -1,8 +1,7 @@
 -- What the functions ask and promise, a record each.
-use Rattle.std.specs.Prelude.{◌≡◌, Bool, List, ℕ, ◌≤◌}
-use Rattle.board.specs.Refusal.{examined_told}
-use Rattle.board.specs.declared.Examined.{Examined}
-use Rattle.board.specs.declared.Examined.TheVariants.{WellFormed}
+use Rattle.board.specs.Refusal.{answered}
+use Rattle.board.specs.declared.Refusal.{Refusal}
+use Rattle.std.specs.Prelude.{◌≡◌, Bool, List, ℕ, ◌≤◌, Ok, Result}
 use Rattle.memory.specs.Memory.{lent}
 use Rattle.memory.specs.declared.Room.{Room}
 use Rattle.solver.specs.Inner.{Roomy}
@@ -22,15 +21,15 @@ pub record Playable (first last budget : ℕ) (r : Room) (nodes heap keys costs 
   pub room : Roomy r (lent nodes heap keys costs)
 
 -- a season is accepted or refused; if it is accepted, all that it asks holds
-pub record Accepts (first last budget capacity words : ℕ) (r : Examined) : Type 0 where
-  pub told : (partial : Bool) → examined_told r ≡ said_of (season_asked first last (settings_of budget capacity partial) words)
-  pub low : r ≡ WellFormed → 1 ≤ first
-  pub high : r ≡ WellFormed → last ≤ 32000
-  pub cheap : r ≡ WellFormed → budget ≤ 1000000
-  pub wide : r ≡ WellFormed → 716 ≤ words
-  pub some : r ≡ WellFormed → 1 ≤ capacity
+pub record Accepts (first last budget capacity words : ℕ) (r : Result (Unit {0}) Refusal) : Type 0 where
+  pub told : (partial : Bool) → answered r ≡ said_of (season_asked first last (settings_of budget capacity partial) words)
+  pub low : r ≡ Ok tt → 1 ≤ first
+  pub high : r ≡ Ok tt → last ≤ 32000
+  pub cheap : r ≡ Ok tt → budget ≤ 1000000
+  pub wide : r ≡ Ok tt → 716 ≤ words
+  pub some : r ≡ Ok tt → 1 ≤ capacity
 
 -- what is said, and what is left in every lent place
-pub record Leaves (old new : Lent) (first last budget : ℕ) (partial : Bool) (r : Examined) : Type 0 where
-  pub said : examined_told r ≡ said_of (season_in old first last budget partial)
+pub record Leaves (old new : Lent) (first last budget : ℕ) (partial : Bool) (r : Result (Unit {0}) Refusal) : Type 0 where
+  pub said : answered r ≡ said_of (season_in old first last budget partial)
   pub left : new ≡ left_by old (season_in old first last budget partial)

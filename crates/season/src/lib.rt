@@ -3,16 +3,13 @@
 
 ghost use Rattle.std.specs.Prelude.{◌≡◌, not, length};
 ghost use Rattle.intake.specs.Number.{is_number};
-ghost use Rattle.memory.specs.Memory.{lent};
-ghost use Rattle.solver.specs.Searched.{most_pops};
-ghost use Rattle.solver.specs.Inner.{Roomy};
 ghost use Rattle.sheets.specs.Over.{sheet_over, between};
 ghost use Rattle.sheets.specs.Noted.{noted};
 ghost use Rattle.sheets.specs.Promises.{Enterable};
 ghost use Rattle.season.specs.Season.{result_of, lent_of};
 ghost use Rattle.season.specs.Inner.{settings_of, Playable, Accepts, Leaves};
 
-use board::{Examined, Refusal};
+use board::Refusal;
 use memory::Room;
 use moves::LIST_ROOM;
 use sheets::{LAST_DEAL, SHEET};
@@ -34,17 +31,12 @@ fn enter_deal(
     requires enterable { Enterable sheet.old n (result_of (settings_of budget room.capacity partial) n) }
     ensures { sheet.new ≡ noted sheet.old n (result_of (settings_of budget room.capacity partial) n) }
 {
-    let dealt = intake::number::hand(n);
-    let b = dealt.board;
+    let b = intake::number::hand(n).unwrap();
     let mut list = [0u8; LIST_ROOM];
     let j = solver::judge_at(
         b, budget, partial, room, nodes, heap, keys, costs, &mut list,
     );
-    let said = j.said;
-    let answer = finish::number(said);
-    let pops = j.pops;
-    let moves = j.moves;
-    entries::note(sheet, n, answer, pops, moves);
+    entries::note(sheet, n, finish::number(j.said), j.pops, j.moves);
 }
 
 // Deal after deal.
@@ -64,47 +56,46 @@ fn judge_deals(
     requires sheet_len { length sheet.old ≡ 716 }
     ensures { sheet.new ≡ sheet_over (settings_of budget room.capacity partial) (result_of (settings_of budget room.capacity partial)) (between first last) }
 {
-    let pops = budget as u64;
-    let capacity = room.capacity as u64;
-    entries::start(sheet, pops, capacity, partial);
-    let mut done = first - 1;
-    while done < last {
-        let n = done + 1;
+    entries::start(sheet, budget as u64, room.capacity as u64, partial);
+    for n in first..=last {
         enter_deal(n, budget, partial, room, nodes, heap, keys, costs, sheet);
-        done = n;
     }
 }
 
 // No hand has the number.
+#[tactic(auto, unfolding(intake::specs::Number::is_number))]
 fn no_number(n: usize) -> bool
     ensures { result ≡ not (is_number n) }
 {
-    if n == 0 {
-        return true;
-    }
-    LAST_DEAL < n
+    !(1..=LAST_DEAL).contains(&n)
 }
 
 // Why a season is refused, in this order: 41, 20, 21, 22.
-fn examine(first: usize, last: usize, budget: usize, capacity: usize, words: usize) -> Examined
+fn examine(
+    first: usize,
+    last: usize,
+    budget: usize,
+    capacity: usize,
+    words: usize,
+) -> Result<(), Refusal>
     ensures { Accepts first last budget capacity words result }
 {
     if no_number(first) {
-        return Examined::Refused(Refusal::NoNumber);
+        return Err(Refusal::NoNumber);
     }
     if no_number(last) {
-        return Examined::Refused(Refusal::NoNumber);
+        return Err(Refusal::NoNumber);
     }
     if MOST_POPS < budget {
-        return Examined::Refused(Refusal::OverBudget);
+        return Err(Refusal::OverBudget);
     }
     if words < SHEET {
-        return Examined::Refused(Refusal::LittleRoom);
+        return Err(Refusal::LittleRoom);
     }
     if capacity == 0 {
-        return Examined::Refused(Refusal::NoNode);
+        return Err(Refusal::NoNode);
     }
-    Examined::WellFormed
+    Ok(())
 }
 
 // 41, 20, 21, 22, or the sheet over the deals from first to last, at the start of its room; the scratch is all zero after it.
@@ -118,13 +109,11 @@ pub fn season(
     keys: &mut [u64],
     costs: &mut [u8],
     sheet: &mut [u64],
-) -> Examined
+) -> Result<(), Refusal>
     ensures { Leaves (lent_of nodes.old heap.old keys.old costs.old sheet.old) (lent_of nodes.new heap.new keys.new costs.new sheet.new) first last budget partial result }
 {
     let capacity = solver::capacity_of(nodes.len(), heap.len(), keys.len(), costs.len());
-    if let Examined::Refused(why) = examine(first, last, budget, capacity, sheet.len()) {
-        return Examined::Refused(why);
-    }
+    examine(first, last, budget, capacity, sheet.len())?;
     let room = solver::room_for(capacity);
     judge_deals(
         first,
@@ -138,9 +127,9 @@ pub fn season(
         costs,
         &mut sheet[..SHEET],
     );
-    base::blank::clear_words(nodes);
-    base::blank::clear_longs(heap);
-    base::blank::clear_longs(keys);
-    base::blank::clear_bytes(costs);
-    Examined::WellFormed
+    base::blank::clear(nodes);
+    base::blank::clear(heap);
+    base::blank::clear(keys);
+    base::blank::clear(costs);
+    Ok(())
 }

@@ -1,15 +1,16 @@
 -- What a written move means on a record: the most that go into an empty column, the count that fits an occupied one, the card there.
-use mathlib.Core.Path.{◌≡◌, refl, sym, ap, ap₂, ◌∙◌, subst}
-use mathlib.Core.Bool.{Bool, true, false, cond}
+use Rattle.std.specs.Prelude.{None, Some}
+use mathlib.Core.Path.{◌≡◌, sym, ap, ap₂, ◌∙◌, subst}
+use mathlib.Core.Bool.{Bool, true, false, cond, ◌&&◌}
 use mathlib.Core.List.{List}
-use Prim.Native.Nat.{ℕ, zero, suc, min, ◌+◌, ◌-◌, ◌*◌, ◌<◌, ◌≤◌}
+use Prim.Native.Nat.{ℕ, suc, min, ◌+◌, ◌-◌, ◌*◌, ◌<◌, ◌≤◌}
 use native.Mathlib.Omega.{arith}
-use borrow.Author.Tests.{eq-eqb, ne_eqb, le-leb, lt-leb, lt-ltb, le-ltb}
+use borrow.Author.Tests.{eq-eqb, ne_eqb, le-leb, lt-leb, lt-ltb}
 use lib.Dec.{leb, ltb}
 use lib.ListN.{length, get_or}
 use Rattle.base.specs.Words.{listed}
 use Rattle.base.specs.Answer.{given, refused, unless}
-use Rattle.base.proofs.Words.{both, first_fails, second_fails}
+use Rattle.base.proofs.Words.{both, second_fails}
 use Rattle.card.specs.Card.{is_card, card_of}
 use Rattle.card.specs.declared.Card.{Card}
 use Rattle.board.specs.Table.{Table}
@@ -18,7 +19,6 @@ use Rattle.board.specs.Inner.{GoodColumns, Sound}
 use Rattle.board.specs.declared.Board.{Board}
 use Rattle.board.proofs.Soundness.{column_length, column_code}
 use Rattle.questions.specs.Questions.{top_of}
-use Rattle.questions.specs.declared.Top.TheVariants.{Is, Empty}
 use Rattle.questions.proofs.Asking.{shown_column, shown_columns, shown_cells}
 use Rattle.runs.specs.Run.{run_length}
 use Rattle.rules.specs.Fit.{fits_on}
@@ -139,36 +139,25 @@ module _ (t : Table) (i j : ℕ) where
   pub means_most : vacant t j ≡ true → {n : ℕ} → n ≡ most_into t i j → {m : Move} → m ≡ offered t ColumnToColumn i j n → given m ≡ sense t (Between i j)
   means_most v q e = sym (rw v (ap (λ (k : Move). given k) (sym (e ∙ ap (offered t ColumnToColumn i j) q))))
 
-  pub means_fit : vacant t j ≡ false → {n : ℕ} → n ≡ fitting t i j → (n ≡ 0 → ⊥) → {m : Move} → m ≡ offered t ColumnToColumn i j n → given m ≡ sense t (Between i j)
-  means_fit v {n} q d e =
-      sym (rw (v, le-leb 1 (fitting t i j) (some n d q)) (ap (λ (k : Move). given k) (sym (e ∙ ap (offered t ColumnToColumn i j) q))))
-    where
-      some : (k : ℕ) → (k ≡ 0 → ⊥) → k ≡ fitting t i j → 1 ≤ fitting t i j
-      some zero d q = absurd (d refl)
-      some (suc k) d q = omega arith
+  pub means_fit : vacant t j ≡ false → {n : ℕ} → n ≡ fitting t i j → 1 ≤ n → {m : Move} → m ≡ offered t ColumnToColumn i j n → given m ≡ sense t (Between i j)
+  means_fit v {n} q h e =
+      sym (rw (v, le-leb 1 (fitting t i j) (omega arith)) (ap (λ (k : Move). given k) (sym (e ∙ ap (offered t ColumnToColumn i j) q))))
 
-  pub fits_none : vacant t j ≡ false → {n : ℕ} → n ≡ fitting t i j → n ≡ 0 → refused 38 ≡ sense t (Between i j)
-  fits_none v q z = sym (rw (v, lt-leb 1 (fitting t i j) (omega arith)))
+  pub fits_none : vacant t j ≡ false → fitting t i j ≡ 0 → refused 38 ≡ sense t (Between i j)
+  fits_none v z = sym (rw (v, lt-leb 1 (fitting t i j) (omega arith)))
 
   module _ (n : ℕ) where
     pub count_occupied : vacant t j ≡ false → refused 30 ≡ sense t (Counted i j n)
     unfolding count_goes
     count_occupied v = sym (rw v)
 
-    pub count_none : n ≡ 0 → refused 30 ≡ sense t (Counted i j n)
-    unfolding count_goes
-    count_none z =
-        sym
-        (ap (λ (g : Bool). unless g 30 (given (offered t ColumnToColumn i j n)))
-        (second_fails (vacant t j) _ (first_fails (leb 1 n) (ltb n (most_into t i j)) (lt-leb 1 n (omega arith)))))
-
     module _ {most : ℕ} (q : most ≡ most_into t i j) where
-      pub count-over : most ≤ n → refused 30 ≡ sense t (Counted i j n)
+      pub count_outside : (leb 1 n && ltb n most) ≡ false → refused 30 ≡ sense t (Counted i j n)
       unfolding count_goes
-      count-over h =
+      count_outside e =
           sym
           (ap (λ (g : Bool). unless g 30 (given (offered t ColumnToColumn i j n)))
-          (second_fails (vacant t j) _ (second_fails (leb 1 n) (ltb n (most_into t i j)) (le-ltb n (most_into t i j) (omega arith)))))
+          (second_fails (vacant t j) _ (ap (λ (k : ℕ). leb 1 n && ltb n k) (sym q) ∙ e)))
 
       pub count_means : vacant t j ≡ true → 1 ≤ n → n < most → {m : Move} → m ≡ offered t ColumnToColumn i j n → given m ≡ sense t (Counted i j n)
       unfolding count_goes
@@ -181,15 +170,15 @@ module _ (t : Table) (i j : ℕ) where
 -- ---- a move of one card
 
 -- a card lies on a column that shows one
-pub some_lies : {b : Board} → Sound b → (i : ℕ) → i < 8 → (c : Card) → top_of (there (shown b) (column i)) ≡ Is c → 1 ≤ get_or b.counts i 0
+pub some_lies : {b : Board} → Sound b → (i : ℕ) → i < 8 → (c : Card) → top_of (there (shown b) (column i)) ≡ Some c → 1 ≤ get_or b.counts i 0
 some_lies {b} s i h c top =
     let l = count-there b s.in_columns i h in
     let k = some_there (there (shown b) (column i)) c top in
     omega arith
 
-module _ (t : Table) (card : Card) {j : Jot} (top : top_of (there t (origin j)) ≡ Is card) where
-  pub top_of_lem : {k : Jot} → j ≡ k → top_of (there t (origin k)) ≡ Is card
-  top_of_lem e = subst (λ (k : Jot). top_of (there t (origin k)) ≡ Is card) e top
+module _ (t : Table) (card : Card) {j : Jot} (top : top_of (there t (origin j)) ≡ Some card) where
+  pub top_of_lem : {k : Jot} → j ≡ k → top_of (there t (origin k)) ≡ Some card
+  top_of_lem e = subst (λ (k : Jot). top_of (there t (origin k)) ≡ Some card) e top
 
   module _ {i k : ℕ} where
     pub means_to_cell : j ≡ ToCell i k → given (TableauToFreeCell i k card) ≡ sense t j
@@ -225,8 +214,8 @@ module _ (t : Table) (j : Jot) where
     unfolding meant
     meant_none h = sym (rw (away, lt-leb 1 (length (there t (origin j))) h))
 
-    pub meant_bare : top_of (there t (origin j)) ≡ Empty → refused 33 ≡ meant t j
+    pub meant_bare : top_of (there t (origin j)) ≡ None → refused 33 ≡ meant t j
     meant_bare e = meant_none (let z = top_empty (there t (origin j)) e in omega arith)
 
-    pub meant-there : {c : Card} → top_of (there t (origin j)) ≡ Is c → sense t j ≡ meant t j
+    pub meant-there : {c : Card} → top_of (there t (origin j)) ≡ Some c → sense t j ≡ meant t j
     meant-there {c} e = sym (meant-sense t j away (let z = some_there (there t (origin j)) c e in omega arith))

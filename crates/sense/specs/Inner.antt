@@ -1,10 +1,7 @@
 -- What each case of a meaning says.
-use Rattle.base.specs.Answer.{Answer, given, refused}
-use Rattle.board.specs.Refusal.{number_of}
-use Rattle.moves.specs.declared.Move.{Move}
-use Rattle.sense.specs.declared.MoveAnswer.{MoveAnswer}
-use Rattle.sense.specs.declared.MoveAnswer.TheVariants as answer
+use Rattle.std.specs.Prelude.{◌≡◌, ℕ, ◌≤◌, Option, Some, None}
 
-abbrev pub move_answered : MoveAnswer → Answer Move
-move_answered (answer.Is m) = given m
-move_answered (answer.Refused why) = refused (number_of why)
+-- the count that fits, which is 0 where none does
+abbrev pub Fitting : ℕ → Option ℕ → Type 0
+Fitting count None = count ≡ 0
+Fitting count (Some n) = (n ≡ count) × (1 ≤ n)

@@ -1,10 +1,10 @@
 -- What comes of a line, read or written: what was asked for, a refusal, or a refusal that tells a place too.
-use Rattle.std.specs.Prelude.{List, ℕ, length}
+use Rattle.std.specs.Prelude.{List, ℕ, length, Result, Ok, Err}
 use Rattle.base.specs.Answer.{given, refused}
 use Rattle.board.specs.Verdict.{Verdict}
 use Rattle.board.specs.Refusal.{number_of}
-use Rattle.sense.specs.declared.LineAnswer.{LineAnswer}
-use Rattle.sense.specs.declared.LineAnswer.TheVariants as line
+use Rattle.sense.specs.declared.LineError.{LineError}
+use Rattle.sense.specs.declared.LineError.TheVariants.{Refused, At}
 
 pub data Outcome (A : Type 0) : Type 0 where
   gives : A → Outcome A
@@ -28,10 +28,10 @@ counted (refuses n) = refuses n
 counted (refuses_at n p) = refuses_at n p
 
 -- what each case of the code's answer means
-abbrev pub line_told : LineAnswer → Outcome ℕ
-line_told (line.Count n) = gives n
-line_told (line.Refused why) = refuses (number_of why)
-line_told (line.RefusedAt why p) = refuses_at (number_of why) p
+abbrev pub line_told : Result ℕ LineError → Outcome ℕ
+line_told (Ok n) = gives n
+line_told (Err (Refused why)) = refuses (number_of why)
+line_told (Err (At why p)) = refuses_at (number_of why) p
 
 -- the most moves of a line
 abbrev pub most_moves : ℕ

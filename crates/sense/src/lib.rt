@@ -1,23 +1,35 @@
-// What a written move means on a board, and how a move is written there; what is answered of a line of them.
+// What a written move means on a board, and how a move is written there; why a line of them is refused.
 #![tactic(auto)]
 
+ghost use Rattle.std.specs.Prelude.{◌≡◌};
+ghost use Rattle.board.specs.declared.Refusal.TheVariants.{WrongText};
+ghost use Rattle.sense.specs.declared.LineError.TheVariants.{Refused, At};
+
 use board::Refusal;
-use moves::Move;
+use notation::WrongSign;
 
 pub mod meant;
 pub mod noted;
 
-// The moves read or the bytes written; a refusal; a refusal with the place of a sign (42) or of a move.
+// Why a line is refused: as a whole, or at the place of a sign (42) or of a move.
 #[derive(Clone, Copy)]
-pub enum LineAnswer {
-    Count(usize),
+pub enum LineError {
     Refused(Refusal),
-    RefusedAt(Refusal, usize),
+    At(Refusal, usize),
 }
 
-// What a written move means on a board, or why it means nothing there.
-#[derive(Clone, Copy)]
-pub enum MoveAnswer {
-    Is(Move),
-    Refused(Refusal),
+impl From<Refusal> for LineError {
+    ghost from_gives = { λ why e. e ≡ Refused why };
+
+    fn from(why: Refusal) -> LineError {
+        LineError::Refused(why)
+    }
+}
+
+impl From<WrongSign> for LineError {
+    ghost from_gives = { λ wrong e. e ≡ At WrongText wrong.place };
+
+    fn from(wrong: WrongSign) -> LineError {
+        LineError::At(Refusal::WrongText, wrong.place)
+    }
 }

@@ -1,5 +1,6 @@
 // What a written move means on a board that is known to be well formed: how many cards go, and which card is the deepest.
-ghost use Rattle.std.specs.Prelude.{◌≡◌, true, ◌<◌, ◌≤◌, get_or};
+ghost use Rattle.std.specs.Prelude.{Some, ◌≡◌, true, ◌<◌, ◌≤◌, get_or};
+ghost use Rattle.board.specs.Refusal.{answered};
 ghost use Rattle.card.specs.Card.{is_card};
 ghost use Rattle.board.specs.Record.{shown, laid, column_at};
 ghost use Rattle.board.specs.Inner.{GoodColumns, Sound};
@@ -8,17 +9,14 @@ ghost use Rattle.generate.specs.Found.{offered};
 ghost use Rattle.generate.specs.declared.Way.TheVariants.{ColumnToColumn};
 ghost use Rattle.notation.specs.Jot.{WellMade};
 ghost use Rattle.sense.specs.Meant.{most_into, fitting, origin, leaves, sense, meant};
-ghost use Rattle.sense.specs.Inner.{move_answered};
+ghost use Rattle.sense.specs.Inner.{Fitting};
 ghost use Rattle.notation.specs.declared.Jot.TheVariants.{Between, Counted};
 ghost use Rattle.questions.specs.Questions.{top_of};
-ghost use Rattle.questions.specs.declared.Top.TheVariants.{Is};
 
-use crate::MoveAnswer;
 use board::{CODES, ROOM, Refusal};
 use card::Card;
 use moves::Move;
 use notation::Jot;
-use questions::Top;
 
 // The deepest of the last n cards of a column.
 fn deepest<'a>(counts: &'a [u8; 8], tableau: &'a [u8; CODES], i: usize, n: usize) -> u8
@@ -30,9 +28,8 @@ fn deepest<'a>(counts: &'a [u8; 8], tableau: &'a [u8; CODES], i: usize, n: usize
     ensures result_value { is_card result ≡ true }
 {
     let first = i * ROOM;
-    let lie = base::wide(counts[i]);
-    let at = first + (lie - n);
-    tableau[at]
+    let lie = usize::from(counts[i]);
+    tableau[first + (lie - n)]
 }
 
 // The most that go from column i into column j if it is empty: the lesser of limit and run.
@@ -51,13 +48,10 @@ pub fn most_into<'a>(
 {
     let limit = rules::most_at(cells, counts, tableau, j);
     let run = rules::run_at(counts, tableau, i);
-    if limit < run {
-        return limit;
-    }
-    run
+    limit.min(run)
 }
 
-// The count within the run of column i that fits column j, 0 if none does.
+// The most cards within the run of column i that fit column j, if any do.
 fn fitting_at<'a>(
     cells: &'a [u8; 4],
     foundation: &'a [u8; 4],
@@ -65,21 +59,20 @@ fn fitting_at<'a>(
     tableau: &'a [u8; CODES],
     i: usize,
     j: usize,
-) -> usize
+) -> Option<usize>
     requires sound { Sound (laid cells.now foundation.now counts.now tableau.now) }
     requires i_bound { i < 8 }
     requires j_bound { j < 8 }
-    ensures { result ≡ fitting (shown (laid cells.now foundation.now counts.now tableau.now)) i j }
+    ensures { Fitting (fitting (shown (laid cells.now foundation.now counts.now tableau.now)) i j) result }
 {
-    let mut n = rules::run_at(counts, tableau, i);
-    while 0 < n {
+    let run = rules::run_at(counts, tableau, i);
+    for n in (1..=run).rev() {
         let code = deepest(counts, tableau, i, n);
         if rules::fit_at(counts, tableau, j, code) {
-            return n;
+            return Some(n);
         }
-        n -= 1;
     }
-    0
+    None
 }
 
 // The move of n cards between two columns.
@@ -116,22 +109,19 @@ fn between_at<'a>(
     tableau: &'a [u8; CODES],
     i: usize,
     j: usize,
-) -> MoveAnswer
+) -> Result<Move, Refusal>
     requires sound { Sound (laid cells.now foundation.now counts.now tableau.now) }
     requires i_bound { i < 8 }
     requires j_bound { j < 8 }
     requires bound { 1 ≤ get_or counts.now i 0 }
-    ensures { move_answered result ≡ sense (shown (laid cells.now foundation.now counts.now tableau.now)) (Between i j) }
+    ensures { answered result ≡ sense (shown (laid cells.now foundation.now counts.now tableau.now)) (Between i j) }
 {
-    if counts[j] == 0 {
-        let most = most_into(cells, foundation, counts, tableau, i, j);
-        return MoveAnswer::Is(run_move(cells, foundation, counts, tableau, i, j, most));
-    }
-    let fits = fitting_at(cells, foundation, counts, tableau, i, j);
-    if fits == 0 {
-        return MoveAnswer::Refused(Refusal::NoFit);
-    }
-    MoveAnswer::Is(run_move(cells, foundation, counts, tableau, i, j, fits))
+    let count = if counts[j] == 0 {
+        most_into(cells, foundation, counts, tableau, i, j)
+    } else {
+        fitting_at(cells, foundation, counts, tableau, i, j).ok_or(Refusal::NoFit)?
+    };
+    Ok(run_move(cells, foundation, counts, tableau, i, j, count))
 }
 
 // Two columns and a count: into an empty one, from 1 to below the most, else 30.
@@ -143,23 +133,18 @@ fn counted_at<'a>(
     i: usize,
     j: usize,
     n: usize,
-) -> MoveAnswer
+) -> Result<Move, Refusal>
     requires sound { Sound (laid cells.now foundation.now counts.now tableau.now) }
     requires i_bound { i < 8 }
     requires j_bound { j < 8 }
-    ensures { move_answered result ≡ sense (shown (laid cells.now foundation.now counts.now tableau.now)) (Counted i j n) }
+    ensures { answered result ≡ sense (shown (laid cells.now foundation.now counts.now tableau.now)) (Counted i j n) }
 {
-    if counts[j] != 0 {
-        return MoveAnswer::Refused(Refusal::OutOfRange);
-    }
-    if n == 0 {
-        return MoveAnswer::Refused(Refusal::OutOfRange);
-    }
     let most = most_into(cells, foundation, counts, tableau, i, j);
-    if most <= n {
-        return MoveAnswer::Refused(Refusal::OutOfRange);
+    if counts[j] == 0 && (1..most).contains(&n) {
+        Ok(run_move(cells, foundation, counts, tableau, i, j, n))
+    } else {
+        Err(Refusal::OutOfRange)
     }
-    MoveAnswer::Is(run_move(cells, foundation, counts, tableau, i, j, n))
 }
 
 // A move that does not go from a column to itself.
@@ -170,16 +155,14 @@ fn goes_away(jot: Jot) -> bool
         Jot::Between {
             source,
             destination,
-        } => source != destination,
-        Jot::Counted {
+        }
+        | Jot::Counted {
             source,
             destination,
             ..
         } => source != destination,
-        Jot::ToCell { .. } => true,
-        Jot::ToHome { .. } => true,
-        Jot::FromCell { .. } => true,
-        Jot::CellHome { .. } => true,
+        Jot::ToCell { .. } | Jot::ToHome { .. } | Jot::FromCell { .. } | Jot::CellHome { .. } =>
+            true,
     }
 }
 
@@ -190,18 +173,17 @@ fn top_there<'a>(
     counts: &'a [u8; 8],
     tableau: &'a [u8; CODES],
     jot: Jot,
-) -> Top
+) -> Option<Card>
     requires sound { Sound (laid cells.now foundation.now counts.now tableau.now) }
     requires well_made { WellMade jot }
     ensures { result ≡ top_of (there (shown (laid cells.now foundation.now counts.now tableau.now)) (origin jot)) }
 {
     match jot {
-        Jot::Between { source, .. } => questions::top_at(counts, tableau, source),
-        Jot::Counted { source, .. } => questions::top_at(counts, tableau, source),
-        Jot::ToCell { source, .. } => questions::top_at(counts, tableau, source),
-        Jot::ToHome { source } => questions::top_at(counts, tableau, source),
-        Jot::FromCell { cell, .. } => questions::cell_at(cells, cell),
-        Jot::CellHome { cell } => questions::cell_at(cells, cell),
+        Jot::Between { source, .. }
+        | Jot::Counted { source, .. }
+        | Jot::ToCell { source, .. }
+        | Jot::ToHome { source } => questions::top_at(counts, tableau, source),
+        Jot::FromCell { cell, .. } | Jot::CellHome { cell } => questions::cell_at(cells, cell),
     }
 }
 
@@ -213,11 +195,11 @@ fn sense_at<'a>(
     tableau: &'a [u8; CODES],
     jot: Jot,
     card: Card,
-) -> MoveAnswer
+) -> Result<Move, Refusal>
     requires sound { Sound (laid cells.now foundation.now counts.now tableau.now) }
     requires well_made { WellMade jot }
-    requires jot_value { top_of (there (shown (laid cells.now foundation.now counts.now tableau.now)) (origin jot)) ≡ Is card }
-    ensures { move_answered result ≡ sense (shown (laid cells.now foundation.now counts.now tableau.now)) jot }
+    requires jot_value { top_of (there (shown (laid cells.now foundation.now counts.now tableau.now)) (origin jot)) ≡ Some card }
+    ensures { answered result ≡ sense (shown (laid cells.now foundation.now counts.now tableau.now)) jot }
 {
     match jot {
         Jot::Between {
@@ -229,19 +211,19 @@ fn sense_at<'a>(
             destination: to,
             count,
         } => counted_at(cells, foundation, counts, tableau, source, to, count),
-        Jot::ToCell { source, cell } => MoveAnswer::Is(Move::TableauToFreeCell {
+        Jot::ToCell { source, cell } => Ok(Move::TableauToFreeCell {
             source,
             cell_index: cell,
             card,
         }),
-        Jot::ToHome { source } => MoveAnswer::Is(Move::TableauToFoundation { source, card }),
-        Jot::FromCell { cell, destination } => MoveAnswer::Is(Move::FreeCellToTableau {
+        Jot::ToHome { source } => Ok(Move::TableauToFoundation { source, card }),
+        Jot::FromCell { cell, destination } => Ok(Move::FreeCellToTableau {
             cell_index: cell,
             destination,
             card,
         }),
         Jot::CellHome { cell: cell_index } => {
-            MoveAnswer::Is(Move::FreeCellToFoundation { cell_index, card })
+            Ok(Move::FreeCellToFoundation { cell_index, card })
         }
     }
 }
@@ -253,16 +235,16 @@ pub fn meant_at<'a>(
     counts: &'a [u8; 8],
     tableau: &'a [u8; CODES],
     jot: Jot,
-) -> MoveAnswer
+) -> Result<Move, Refusal>
     requires sound { Sound (laid cells.now foundation.now counts.now tableau.now) }
     requires well_made { WellMade jot }
-    ensures { move_answered result ≡ meant (shown (laid cells.now foundation.now counts.now tableau.now)) jot }
+    ensures { answered result ≡ meant (shown (laid cells.now foundation.now counts.now tableau.now)) jot }
 {
     if !goes_away(jot) {
-        return MoveAnswer::Refused(Refusal::OutOfRange);
+        return Err(Refusal::OutOfRange);
     }
-    let Top::Is(card) = top_there(cells, foundation, counts, tableau, jot) else {
-        return MoveAnswer::Refused(Refusal::SourceEmpty);
+    let Some(card) = top_there(cells, foundation, counts, tableau, jot) else {
+        return Err(Refusal::SourceEmpty);
     };
     sense_at(cells, foundation, counts, tableau, jot, card)
 }

@@ -27,27 +27,23 @@ fn run_jot<'a>(
     requires destination_bound { destination < 8 }
     ensures { (c : Card) → result ≡ jot_of (shown (laid cells.now foundation.now counts.now tableau.now)) (TableauToTableau source destination count c) }
 {
-    if counts[destination] != 0 {
-        return Jot::Between {
-            source,
-            destination,
-        };
-    }
     let most = most_into(cells, foundation, counts, tableau, source, destination);
-    if count < most {
-        return Jot::Counted {
+    if counts[destination] == 0 && count < most {
+        Jot::Counted {
             source,
             destination,
             count,
-        };
-    }
-    Jot::Between {
-        source,
-        destination,
+        }
+    } else {
+        Jot::Between {
+            source,
+            destination,
+        }
     }
 }
 
 // How a move is written on a board (one of a card from its foundation is refused before: 43).
+#[tactic(auto, unfolding(crate::specs::Meant::jot_of))]
 pub fn jot_at<'a>(
     m: Move,
     cells: &'a [u8; 4],

@@ -5,7 +5,7 @@ use mathlib.Core.List.{List}
 use Prim.Native.Nat.{ℕ, ◌+◌, ◌*◌, ◌-◌, ◌/◌, ◌%◌, ◌^◌, ◌<◌, ◌≤◌}
 use native.Mathlib.Omega.{arith}
 use native.Mathlib.Decide.{ℕ_discrete, dec_lt}
-use borrow.Author.Tests.{eq-eqb, ne_eqb, eqb-true, lt-ltb, le-ltb}
+use borrow.Author.Tests.{eq-eqb, ne_eqb, eqb-true}
 use lib.Dec.{eqb, ltb}
 use lib.ListN.{length, get_or, set, length-set}
 use lib.Seq.{get_or-set_same, get_or-set_other}
@@ -18,11 +18,11 @@ use Rattle.board.proofs.Bits.{bit_small, bit_word, bit_fits}
 use Rattle.sheets.specs.declared.Side.{Side}
 use Rattle.sheets.specs.declared.Side.TheVariants.{Shortest as shortest, Longest as longest}
 use Rattle.sheets.specs.Figures.{answers_counted, Figure, the_budget, the_capacity, the_flag, answers, all_pops, mark_list, mark_deal, lists, covers, told}
-use Rattle.sheets.specs.Over.{Settings, Result, won, behind, key_of, no_figure, zero_sheet}
+use Rattle.sheets.specs.Over.{Settings, Result, won, key_of, no_figure, zero_sheet}
 use Rattle.sheets.specs.Good.{covered}
 use Rattle.sheets.specs.Adding.{key_in}
 use Rattle.sheets.specs.Noted.{noted_figure, noted}
-use Rattle.sheets.specs.Promises.{Small, mark_set, mark_entered, Enterable, Raised, WinNoted}
+use Rattle.sheets.specs.Promises.{Small, mark_entered, Enterable, Raised, WinNoted}
 use Rattle.sheets.proofs.Reading.{Stands, same_words, words_tell, words_long, told_at}
 use Rattle.sheets.proofs.Goodness.{IsGood, good_is, deals_most, answers_most, lists_most}
 use Rattle.sheets.proofs.Deciding.{pops_fit}
@@ -92,9 +92,6 @@ raised a at by h =
 
 -- ---- the place of an answer
 
-pub answer_last : (x : ℕ) → x ≡ 23 → (6 < 7) × (get_or answers_counted 6 0 ≡ x)
-answer_last x e = (omega arith, sym e)
-
 below_six : (x : ℕ) → occurs x answers_counted ≡ 1 → (x ≡ 23 → ⊥) → x < 6
 unfolding occurs
 below_six x o d = by_order (dec_lt x 6)
@@ -135,15 +132,6 @@ answer_place x r k h l e =
     ∙ eqb-true (cond (eqb (get_or answers_counted r 0) (get_or answers_counted k 0)) 1 0) (cond (eqb k r) 1 0)
     (every_at (λ k. eqb (cond (eqb (get_or answers_counted r 0) (get_or answers_counted k 0)) 1 0) (cond (eqb k r) 1 0)) 7
     (every_at (λ r. every 7 (λ k. eqb (cond (eqb (get_or answers_counted r 0) (get_or answers_counted k 0)) 1 0) (cond (eqb k r) 1 0))) 7 single r h) k l)
-
--- ---- a won list against a mark
-
-module _ (e : Side) (a : List ℕ) (m n back mine : ℕ) (p : mine ≡ key_in e a) (q : back ≡ behind e m) where
-  pub mark_taken : (X : List ℕ) → back * 32768 + n < mine → X ≡ mark_set e a m n → X ≡ mark_entered e a m n
-  mark_taken X h w = w ∙ sym (rw (lt-ltb (key_of e m n) (key_in e a) (omega arith)) refl)
-
-  pub mark_left : mine ≤ back * 32768 + n → a ≡ mark_entered e a m n
-  mark_left h = sym (rw (le-ltb (key_of e m n) (key_in e a) (omega arith)) refl)
 
 -- ---- a win
 

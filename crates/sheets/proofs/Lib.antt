@@ -10,8 +10,8 @@ pub mod Goodness
 pub mod Sums
 pub mod Adding
 pub mod Loops
+pub mod Ranges
 pub mod Deciding
-pub mod Totals
 pub mod Figuring
 pub mod Answering
 pub mod Entering

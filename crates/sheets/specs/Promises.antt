@@ -1,13 +1,13 @@
 -- What the functions ask and promise, a record each.
-use Rattle.std.specs.Prelude.{◌≡◌, Bool, true, false, cond, List, ℕ, ◌+◌, ◌^◌, ◌<◌, ◌≤◌, eqb, ltb, length, get_or, set}
+use Rattle.board.specs.Refusal.{answered}
+use Rattle.board.specs.declared.Refusal.{Refusal}
+use Rattle.std.specs.Prelude.{◌≡◌, Bool, true, false, cond, List, ℕ, ◌+◌, ◌^◌, ◌<◌, ◌≤◌, eqb, ltb, length, get_or, set, Result as Outcome}
 use Rattle.base.specs.Answer.{Answer, given, refused}
 use Rattle.base.specs.Words.{occurs}
 use Rattle.board.specs.Verdict.{Verdict, fine}
-use Rattle.board.specs.Refusal.{examined_told}
-use Rattle.board.specs.declared.Examined.{Examined}
 use Rattle.sheets.specs.declared.Side.{Side}
 use Rattle.sheets.specs.Figures.{answers_counted, the_budget, mark_list, mark_deal, lists, place_of, told}
-use Rattle.sheets.specs.Over.{Result, key_of}
+use Rattle.sheets.specs.Over.{Result as DealResult, key_of}
 use Rattle.sheets.specs.Good.{covered, good_sheet}
 use Rattle.sheets.specs.Adding.{same_settings, apart, key_in, better, add_asked}
 
@@ -65,14 +65,14 @@ abbrev pub left_of : List ℕ → Answer (List ℕ) → List ℕ
 left_of a (given x) = x
 left_of a (refused n) = a
 
-pub record Adds (a b X : List ℕ) (r : Examined) : Type 0 where
-  pub said : examined_told r ≡ said_of (add_asked a b)
+pub record Adds (a b X : List ℕ) (r : Outcome (Unit {0}) Refusal) : Type 0 where
+  pub said : answered r ≡ said_of (add_asked a b)
   pub left : X ≡ left_of a (add_asked a b)
 
 -- ---- entering
 
 -- a sheet into which a deal can be entered: it is good and lacks the deal, which gave an answer within its budget
-pub record Enterable (a : List ℕ) (n : ℕ) (x : Result) : Type 0 where
+pub record Enterable (a : List ℕ) (n : ℕ) (x : DealResult) : Type 0 where
   pub good : good_sheet a ≡ true
   pub low : 0 < n
   pub high : n ≤ 32000

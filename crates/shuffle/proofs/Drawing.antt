@@ -2,7 +2,6 @@
 use mathlib.Core.Path.{◌≡◌, sym, ap, ◌∙◌, subst}
 use mathlib.Core.List.{List, [], ◌∷◌, ◌++◌, append_assoc, append-nil}
 use Prim.Native.Nat.{ℕ, suc, ◌+◌, ◌-◌, ◌%◌, ◌^◌, ◌<◌, ◌≤◌}
-use native.Mathlib.Nat.{mod-lt}
 use native.Mathlib.Numerals.{add-one}
 use native.Mathlib.Omega.{arith}
 use lib.ListN.{length, get_or, set, take, length-set}
@@ -40,9 +39,6 @@ draw_begin {number} l e h =
     record { within = omega arith; deck52 = l; pack52 = ap length e ∙ length-listed card_at 52; small = h; on = ap (dealt_from 52 number) e }
 
 module _ {number : ℕ} {deck pack : List ℕ} {state dealt : ℕ} (d : Drawing number deck pack state dealt) where
-  pub place_below_lem : (draw : ℕ) → dealt < 52 → draw % (52 - dealt) < 52
-  place_below_lem draw h = let m : draw % (52 - dealt) < 52 - dealt = mod-lt draw (omega arith) in omega arith
-
   pub draw_next : {next draw : ℕ} → dealt < 52 → next ≡ stepped state → draw ≡ drawn next
       → Drawing number (set deck dealt (get_or pack (draw % (52 - dealt)) 0)) (set pack (draw % (52 - dealt)) (get_or pack (52 - dealt - 1) 0)) next (dealt + 1)
   draw_next {next} {draw} h e q =

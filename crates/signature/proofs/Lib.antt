@@ -3,10 +3,8 @@ pub mod Digits
 pub mod Product
 pub mod Hashing
 pub mod Examples
-pub mod Fours
 pub mod Columns
 pub mod Homes
 pub mod Joined
 pub mod Fits
 pub mod Renumbered
-pub mod Unique

@@ -1,16 +1,13 @@
 -- The signature of a board: a hash of all that lies on it, which cell and which column being left out of account.
 use Rattle.std.specs.Prelude.{ℕ, ◌+◌, List, [], ◌∷◌, ◌++◌, slice_index, slice_index_or}
 use Rattle.base.specs.Words.{listed, concat}
-use Rattle.base.specs.Answer.{Answer, given, refused}
+use Rattle.base.specs.Answer.{Answer, given}
 use Rattle.board.specs.Table.{Table, pile}
 use Rattle.board.specs.Verdict.{after}
 use Rattle.board.specs.Record.{examined, shown}
-use Rattle.board.specs.Refusal.{number_of}
 use Rattle.board.specs.declared.Board.{Board}
 use Rattle.signature.specs.Fnv.{fnv}
 use Rattle.base.specs.Rising.{rising}
-use Rattle.signature.specs.declared.SignatureAnswer.{SignatureAnswer}
-use Rattle.signature.specs.declared.SignatureAnswer.TheVariants.{Signature, Refused}
 
 -- a suit's words: the suit and 256, then the codes of its cards that are home
 unfoldable pub home_words : List ℕ → ℕ → List ℕ
@@ -34,7 +31,3 @@ signature_of t = signed t.foundation t.cells (column_hashes t.columns)
 -- 12 to 15 if the board is not fine
 unfoldable pub signature_asked : Board → Answer ℕ
 signature_asked b = after (examined b) (given (signature_of (shown b)))
-
-abbrev pub signature_told : SignatureAnswer → Answer ℕ
-signature_told (Signature n) = given n
-signature_told (Refused why) = refused (number_of why)

@@ -2,42 +2,27 @@
 #![tactic(auto)]
 
 ghost use Rattle.std.specs.Prelude.{◌≡◌, ◌*◌, ◌%◌, ◌^◌, ◌<◌, ◌≤◌, length};
+ghost use Rattle.board.specs.Refusal.{answered};
 ghost use Rattle.base.specs.Words.{listed, concat};
 ghost use Rattle.board.specs.Record.{shown, column_at, laid};
 ghost use Rattle.board.specs.Inner.{GoodPiles, GoodColumns, Sound};
 ghost use Rattle.board.specs.Table.{pile};
 ghost use Rattle.signature.specs.Fnv.{prime, fnv_step, fnv_from, fnv};
-ghost use Rattle.signature.specs.Signed.{home_words, column_hashes, signed, signature_of, signature_asked, signature_told};
+ghost use Rattle.signature.specs.Signed.{home_words, column_hashes, signed, signature_of, signature_asked};
 
 use board::verdict::inspect;
-use board::{Board, CODES, Examined, ROOM, Refusal};
-
-#[derive(Clone, Copy)]
-pub enum SignatureAnswer {
-    Signature(u64),
-    Refused(Refusal),
-}
+use board::{Board, CODES, Refusal};
+use std::array;
 
 const OFFSET: u64 = 14695981039346656037;
 
-// A byte as a word.
-fn word(x: u8) -> u64
-    ensures { result ≡ x }
-{
-    x as u64
-}
+const PRIME: u64 = 1099511628211;
 
-// Times 1099511628211 = 2^40 + 2^8 + 2^7 + 2^5 + 2^4 + 2 + 1 modulo 2^64, by shifts and sums: no product is that wide.
+// Times the prime modulo 2^64.
 fn times_prime(x: u64) -> u64
     ensures { result ≡ x * prime % 2 ^ 64 }
 {
-    let high = x << 40;
-    let with_256 = std::num::wrapping_add_u64(high, x << 8);
-    let with_128 = std::num::wrapping_add_u64(with_256, x << 7);
-    let with_32 = std::num::wrapping_add_u64(with_128, x << 5);
-    let with_16 = std::num::wrapping_add_u64(with_32, x << 4);
-    let with_2 = std::num::wrapping_add_u64(with_16, x << 1);
-    std::num::wrapping_add_u64(with_2, x)
+    x.wrapping_mul(PRIME)
 }
 
 // One word more: XOR first, then times the prime.
@@ -51,26 +36,14 @@ pub fn step(h: u64, x: u64) -> u64
 pub fn fnv1a(s: &[u8]) -> u64
     ensures { result ≡ fnv s.now }
 {
-    let mut h = OFFSET;
-    let mut k = 0;
-    while k < s.len() {
-        h = step(h, word(s[k]));
-        k += 1;
-    }
-    h
+    s.iter().fold(OFFSET, |h, x| step(h, u64::from(*x)))
 }
 
 // On from a hash with some words.
 fn take_words(h: u64, s: &[u64]) -> u64
     ensures { result ≡ fnv_from h s.now }
 {
-    let mut now = h;
-    let mut k = 0;
-    while k < s.len() {
-        now = step(now, s[k]);
-        k += 1;
-    }
-    now
+    s.iter().fold(h, |now, x| step(now, *x))
 }
 
 // On with the first n cards of a suit.
@@ -79,15 +52,7 @@ fn take_pile(h: u64, s: u64, n: u64) -> u64
     requires n_bound { n ≤ 13 }
     ensures { result ≡ fnv_from h (pile s n) }
 {
-    let mut now = h;
-    let mut v = 0;
-    while v < n {
-        let value = v + 1;
-        let high = value * 16;
-        now = step(now, high + s);
-        v = value;
-    }
-    now
+    (0..n).fold(h, |now, v| step(now, (v + 1) * 16 + s))
 }
 
 // On with a suit's words.
@@ -98,7 +63,7 @@ fn take_home(h: u64, foundation: &[u8; 4], i: usize) -> u64
 {
     let s = i as u64;
     let marked = step(h, s + 256);
-    take_pile(marked, s, word(foundation[i]))
+    take_pile(marked, s, u64::from(foundation[i]))
 }
 
 // The words of the four foundations.
@@ -106,25 +71,7 @@ fn take_homes(foundation: &[u8; 4]) -> u64
     requires { GoodPiles foundation.now }
     ensures { result ≡ fnv (concat (listed 4 (home_words foundation.now))) }
 {
-    let mut h = OFFSET;
-    let mut i = 0;
-    while i < 4 {
-        h = take_home(h, foundation, i);
-        i += 1;
-    }
-    h
-}
-
-fn four_words(cells: &[u8; 4]) -> [u64; 4]
-    requires { length cells.now ≡ 4 }
-    ensures { result ≡ cells.now }
-{
-    [
-        word(cells[0]),
-        word(cells[1]),
-        word(cells[2]),
-        word(cells[3]),
-    ]
+    (0..4).fold(OFFSET, |h, i| take_home(h, foundation, i))
 }
 
 // The signature of foundation counts, cells and column hashes.
@@ -134,7 +81,7 @@ pub fn sign<'a>(foundation: &'a [u8; 4], cells: &'a [u8; 4], hashes: &'a [u64; 8
     requires hashes_len { length hashes.now ≡ 8 }
     ensures { result ≡ signed foundation.now cells.now hashes.now }
 {
-    let mut held = four_words(cells);
+    let mut held = cells.map(u64::from);
     let mut lie = *hashes;
     base::order::sort(&mut held);
     base::order::sort(&mut lie);
@@ -149,9 +96,7 @@ pub fn hash_at<'a>(counts: &'a [u8; 8], tableau: &'a [u8], i: usize) -> u64
     requires i_bound { i < 8 }
     ensures { result ≡ fnv (column_at counts.now tableau.now i) }
 {
-    let first = i * ROOM;
-    let end = first + base::wide(counts[i]);
-    fnv1a(&tableau[first..end])
+    fnv1a(questions::column_at(counts, tableau, i))
 }
 
 // The hashes of the eight columns.
@@ -159,13 +104,7 @@ pub fn hashes_at<'a>(counts: &'a [u8; 8], tableau: &'a [u8]) -> [u64; 8]
     requires { GoodColumns counts.now tableau.now }
     ensures { result ≡ column_hashes (listed 8 (column_at counts.now tableau.now)) }
 {
-    let mut hashes = [0u64; 8];
-    let mut i = 0;
-    while i < 8 {
-        hashes[i] = hash_at(counts, tableau, i);
-        i += 1;
-    }
-    hashes
+    array::from_fn(|i| hash_at(counts, tableau, i))
 }
 
 // The signature of a well formed board.
@@ -183,11 +122,9 @@ pub fn signature_at<'a>(
 }
 
 // 12 to 15, or the signature of a board.
-pub fn signature_of(b: Board) -> SignatureAnswer
-    ensures { signature_told result ≡ signature_asked b }
+pub fn signature_of(b: Board) -> Result<u64, Refusal>
+    ensures { answered result ≡ signature_asked b }
 {
-    if let Examined::Refused(why) = inspect(&b.cells, &b.foundation, &b.counts, &b.tableau) {
-        return SignatureAnswer::Refused(why);
-    }
-    SignatureAnswer::Signature(signature_at(&b.cells, &b.foundation, &b.counts, &b.tableau))
+    inspect(&b.cells, &b.foundation, &b.counts, &b.tableau)?;
+    Ok(signature_at(&b.cells, &b.foundation, &b.counts, &b.tableau))
 }

@@ -1,4 +1,5 @@
 -- What is refused, in order, and what an accepted search leaves.
+use Rattle.std.specs.Prelude.{Err, Ok, Result}
 use mathlib.Core.Path.{◌≡◌, sym, ap, ◌∙◌, subst}
 use mathlib.Core.Bool.{Bool}
 use mathlib.Core.List.{List}
@@ -12,11 +13,9 @@ use Rattle.base.specs.Answer.{refused, unless}
 use Rattle.board.specs.Verdict.{Verdict, fine}
 use Rattle.board.specs.Record.{examined, shown}
 use Rattle.board.specs.Inner.{Sound}
-use Rattle.board.specs.Refusal.{number_of, examined_told}
+use Rattle.board.specs.Refusal.{number_of, answered}
 use Rattle.board.specs.declared.Board.{Board}
 use Rattle.board.specs.declared.Refusal.{Refusal}
-use Rattle.board.specs.declared.Examined.{Examined}
-use Rattle.board.specs.declared.Examined.TheVariants as board
 use Rattle.questions.proofs.Asking.{after_no, after_yes}
 use Rattle.base.specs.Blank.{blank}
 use Rattle.base.proofs.Clearing.{blank_same}
@@ -24,7 +23,7 @@ use Rattle.search.specs.Freecell.{judge}
 use Rattle.memory.specs.declared.Room.{Room}
 use Rattle.solver.specs.Capacity.{capacity_of, entries_of}
 use Rattle.solver.specs.Searched.{outcome, accepted, searched_by, answered_with, searched}
-use Rattle.finish.specs.declared.Said.TheVariants.{Refused}
+use Rattle.finish.specs.Said.{told}
 use Rattle.finish.specs.declared.Judged.{Judged}
 use Rattle.finish.specs.Inner.{Gives}
 use Rattle.solver.specs.Inner.{Accepts, Roomy}
@@ -32,12 +31,12 @@ use Rattle.memory.specs.Memory.{lent}
 
 -- ---- the order of the refusals
 
-module _ (b : Board) (budget capacity lent : ℕ) {e : Examined} (p : examined_told e ≡ examined b) where
-  pub no_board : {why : Refusal} → e ≡ board.Refused why → refused (number_of why) ≡ accepted b budget capacity lent
+module _ (b : Board) (budget capacity lent : ℕ) {e : Result (Unit {0}) Refusal} (p : answered e ≡ examined b) where
+  pub no_board : {why : Refusal} → e ≡ Err why → refused (number_of why) ≡ accepted b budget capacity lent
   unfolding accepted
   no_board q = after_no _ p q
 
-  module _ (q : e ≡ board.WellFormed) where
+  module _ (q : e ≡ Ok tt) where
     accepted_is : accepted b budget capacity lent ≡ unless (leb budget 1000000) 20 (unless (leb 1000 lent) 21 (unless (leb 1 capacity) 22 fine))
     unfolding accepted
     accepted_is = after_yes _ p q
@@ -66,7 +65,7 @@ module _ (b : Board) (budget capacity lent : ℕ) {e : Examined} (p : examined_t
 
 module _ (b : Board) (budget capacity lent : ℕ) where
   -- refused: nothing else is promised
-  pub accepts_no : {why : Refusal} → refused (number_of why) ≡ accepted b budget capacity lent → Accepts b budget capacity lent (board.Refused why)
+  pub accepts_no : {why : Refusal} → refused (number_of why) ≡ accepted b budget capacity lent → Accepts b budget capacity lent (Err why)
   accepts_no e =
       record {
         told = e;
@@ -76,7 +75,7 @@ module _ (b : Board) (budget capacity lent : ℕ) where
         some = λ q. let z : ◌≡◌ {A = ℕ} 0 1 = cc in absurd (let w : ⊥ = omega arith in w);
       }
 
-  pub accepts_yes : accepted b budget capacity lent ≡ fine → Sound b → budget ≤ 1000000 → 1000 ≤ lent → 1 ≤ capacity → Accepts b budget capacity lent board.WellFormed
+  pub accepts_yes : accepted b budget capacity lent ≡ fine → Sound b → budget ≤ 1000000 → 1000 ≤ lent → 1 ≤ capacity → Accepts b budget capacity lent (Ok tt)
   accepts_yes e s h k l = record { told = sym e; sound = λ q. s; affordable = λ q. h; listed = λ q. k; some = λ q. l }
 
 -- ---- the room
@@ -149,18 +148,17 @@ module _ (nodes heap keys costs list : List ℕ) (b : Board) (budget : ℕ) (par
   abbrev here : ℕ
   here = capacity_of (length nodes) (length heap) (length keys) (length costs)
 
-  pub outcome_refused : {r : Judged} {why : Refusal} → r ≡ record { said = Refused why; pops = 0; moves = 0 } → refused (number_of why) ≡ accepted b budget here (length list)
-      → outcome r nodes heap keys costs list ≡ searched nodes heap keys costs list b budget partial
+  pub outcome_refused : (why : Refusal) → refused (number_of why) ≡ accepted b budget here (length list)
+      → outcome (told (Err why)) nodes heap keys costs list ≡ searched nodes heap keys costs list b budget partial
   unfolding searched
-  outcome_refused q e =
-      ap (λ (x : Judged). outcome x nodes heap keys costs list) q ∙ ap (λ (v : Verdict). searched_by nodes heap keys costs list v b budget partial) e
+  outcome_refused why e = ap (λ (v : Verdict). searched_by nodes heap keys costs list v b budget partial) e
 
   -- the parts were cleared, and the answer is given
   pub outcome_given : (n h k c : List ℕ) {r : Judged} {room : Room} {after : List ℕ} {n' h' k' c' : List ℕ} {capacity : ℕ}
       → accepted b budget here (length list) ≡ fine → capacity ≡ here → room ≡ record { capacity = capacity; entries = entries_of capacity }
       → Gives (judge (shown b) budget room.capacity partial) list after r
       → length n ≡ length nodes → n' ≡ blank n → length h ≡ length heap → h' ≡ blank h → length k ≡ length keys → k' ≡ blank k → length c ≡ length costs → c' ≡ blank c
-      → outcome r n' h' k' c' after ≡ searched nodes heap keys costs list b budget partial
+      → outcome (told (Ok r)) n' h' k' c' after ≡ searched nodes heap keys costs list b budget partial
   unfolding searched answered_with
   outcome_given n h k c {r} {room} {after} {n'} {h'} {k'} {c'} {capacity} ok q y g ln bn lh bh lk bk lc bc =
       let cap : room.capacity ≡ here = ap (λ (x : Room). x.capacity) y ∙ q in
@@ -180,7 +178,7 @@ module _ (nodes heap keys costs list : List ℕ) (b : Board) (budget : ℕ) (par
       zc = bc ∙ blank_same c costs lc
 
       given : Gives (judge (shown b) budget here partial) list after r
-          → outcome r n' h' k' c' after ≡ answered_with nodes heap keys costs list (judge (shown b) budget here partial)
+          → outcome (told (Ok r)) n' h' k' c' after ≡ answered_with nodes heap keys costs list (judge (shown b) budget here partial)
       given x =
           let a = x.number in
           let p = x.pops in
@@ -193,5 +191,5 @@ module _ (nodes heap keys costs list : List ℕ) (b : Board) (budget : ℕ) (par
           cc
 
 -- the capacity is what the parts hold
-pub told_here : {b : Board} {budget capacity lent : ℕ} {r : Examined} → Accepts b budget capacity lent r → {n : ℕ} → capacity ≡ n → examined_told r ≡ accepted b budget n lent
+pub told_here : {b : Board} {budget capacity lent : ℕ} {r : Result (Unit {0}) Refusal} → Accepts b budget capacity lent r → {n : ℕ} → capacity ≡ n → answered r ≡ accepted b budget n lent
 told_here {b} {budget} {lent = lent} x e = x.told ∙ ap (λ (c : ℕ). accepted b budget c lent) e

@@ -5,7 +5,7 @@ use mathlib.Core.List.{List, [], ◌∷◌, ◌++◌}
 use mathlib.Core.Logic.{◌⊎◌, inl, inr}
 use Prim.Native.Nat.{ℕ, ◌+◌, ◌*◌, ◌≤◌}
 use native.Mathlib.Omega.{arith}
-use borrow.Author.Tests.{leb-true, eqb-true}
+use borrow.Author.Tests.{leb-true, eqb-true, le-leb}
 use lib.Dec.{eqb, leb}
 use lib.ListN.{length, take, drop}
 use lib.Seq.{take_at, drop_at}
@@ -15,7 +15,10 @@ use Rattle.board.specs.Verdict.{Verdict, fine, after, only_cards, none_twice, no
 use Rattle.board.specs.Table.{Table, cards_on}
 use Rattle.board.specs.Record.{shapely, examined, shown}
 use Rattle.board.specs.Inner.{Sound, Sized}
+use Rattle.board.specs.Refusal.{number_of, is_said}
 use Rattle.board.specs.declared.Board.{Board}
+use Rattle.board.specs.declared.Refusal.{Refusal}
+use Rattle.board.proofs.Unique.{never_said}
 use Rattle.board.proofs.Soundness.{passed, sound}
 use Rattle.questions.specs.Questions.{won_on}
 use Rattle.moves.specs.Record.{record_of}
@@ -29,9 +32,8 @@ use Rattle.search.specs.Claims.{is_some, brings_list, is_best_at_limit, is_best,
 use Rattle.search.specs.Played.{ends_won, PlayedOut}
 use Rattle.search.proofs.Judge as proved
 use Rattle.memory.specs.Memory.{Memory, lent}
-use Rattle.finish.specs.Said.{moves_of}
+use Rattle.finish.specs.Said.{Told, moves_of}
 use Rattle.solver.specs.Searched.{Outcome, outcome, accepted, searched_by, answered_with, searched}
-use Rattle.finish.specs.Inner.{Gives}
 use Rattle.solver.specs.Told.{Call, IsAnswer, number, capacity, verdict, Accepted, handed, HandsOver, NoList, Cleared, Untouched}
 
 -- ---- refusals have numbers from 12 to 22
@@ -65,6 +67,13 @@ module _ {n : ℕ} where
 no_answer : {n : ℕ} → Between n → IsAnswer n → ⊥
 no_answer h (inl k) = let l = h.0 in omega arith
 no_answer h (inr k) = let l = h.1 in omega arith
+
+-- no refusal has an answer's number
+pub refusal_says : (why : Refusal) → IsAnswer (number_of why) → ⊥
+refusal_says why (inl h) =
+    let n = number_of why in
+    true_or_not (is_said n) (ap (λ (t : Bool). t || (eqb n 23 || eqb n 24)) (le-leb n 5 h)) (never_said why)
+refusal_says why (inr e) = true_or_not (is_said (number_of why)) (ap is_said e) (never_said why)
 
 -- the definition answers with an answer's number
 progress_answer : (h : Bool) (with without : ℕ) (s : State freecell) → with ≤ 5 → without ≤ 5 → IsAnswer (progressed freecell h with without s).number
@@ -165,6 +174,13 @@ one_list_lem (k ∷ l) (n ∷ m) h e =
 
 -- ---- one call
 
+-- an answer was given, as its caller is told
+pub record Gave (a : Answer freecell) (old new : List ℕ) (t : Told) : Type 0 where
+  pub number : t.number ≡ a.number
+  pub pops : t.pops ≡ a.pops
+  pub moves : t.moves ≡ length (moves_of a.list)
+  pub list : new ≡ written old 0 (moves_of a.list)
+
 module _ {b : Board} (c : Call b) where
   -- the answer of the definition
   abbrev pub sought : Answer freecell
@@ -176,7 +192,7 @@ module _ {b : Board} (c : Call b) where
   unfolding searched
   by v e = c.holds ∙ ap (λ (w : Verdict). searched_by c.scratch.nodes c.scratch.heap c.scratch.keys c.scratch.costs c.list w b c.budget c.partial) e
 
-  pub gives : Accepted c → Gives sought c.list c.list_after c.result
+  pub gives : Accepted c → Gave sought c.list c.list_after c.result
   unfolding answered_with
   gives a =
       let o = by fine a in

@@ -1,4 +1,5 @@
 -- T2, T3 and T5 (search/proofs/Judge.antt) over the code: what holds of any two calls on one board that keep the promise of `solve`, whatever the scratch held.
+use Rattle.std.specs.Prelude.{Ok}
 use mathlib.Core.Path.{◌≡◌, refl, sym, ap, ◌∙◌, subst}
 use mathlib.Core.Bool.{Bool, true, false}
 use mathlib.Core.List.{List}
@@ -13,7 +14,6 @@ use Rattle.board.specs.Verdict.{Verdict}
 use Rattle.board.specs.Record.{shown}
 use Rattle.board.specs.Inner.{Sized}
 use Rattle.board.specs.declared.Board.{Board}
-use Rattle.board.specs.declared.Examined.TheVariants as board
 use Rattle.moves.specs.declared.Move.{Move}
 use Rattle.moves.specs.Written.{bytes_of}
 use Rattle.search.specs.Solve.{Perhaps, none, some, Answer}
@@ -105,7 +105,7 @@ module _ {b : Board} (x y : Call b) where
         let q = asks b x.budget (capacity x) (length x.list) a in
         let one = q.some in
         let more = less.room in
-        all-fine b y.budget (capacity y) (length y.list) {e = board.WellFormed} (sym q.good) refl h k (omega arith)
+        all-fine b y.budget (capacity y) (length y.list) {e = (Ok tt)} (sym q.good) refl h k (omega arith)
 
     -- the answer of the definition for y, with the flag of x
     flagged : sought y ≡ judge (shown b) y.budget (capacity y) x.partial

@@ -1,46 +1,49 @@
 -- One result only: what `solve` hands back and leaves is determined.
 use mathlib.Core.Path.{◌≡◌, refl, sym, ap, ◌∙◌}
-use mathlib.Core.Bool.{Bool, cond}
+use mathlib.Core.Bool.{Bool, true, cond}
 use mathlib.Core.List.{List}
 use Prim.Native.Nat.{ℕ}
 use lib.Dec.{eqb}
-use Rattle.board.specs.Refusal.{number_of, is_said}
+use Rattle.std.specs.Prelude.{Result, Ok, Err}
+use Rattle.base.proofs.Unique.{told_once}
+use Rattle.board.specs.Refusal.{is_said}
 use Rattle.board.specs.declared.Board.{Board}
 use Rattle.board.specs.declared.Refusal.{Refusal}
 use Rattle.board.proofs.Unique.{why_of, why_law, never_said}
 use Rattle.memory.specs.Memory.{Memory, lent}
-use Rattle.finish.specs.Said.{said_number}
+use Rattle.finish.specs.Said.{said_number, Told, told}
 use Rattle.solver.specs.Searched.{Outcome, outcome, searched}
 use Rattle.finish.specs.declared.Said.{Said}
-use Rattle.finish.specs.declared.Said.TheVariants.{Won, BestAtLimit, BestExhausted, Limit, Exhausted, BestIsWon, OutOfNodes, Refused}
+use Rattle.finish.specs.declared.Said.TheVariants.{Won, BestAtLimit, BestExhausted, Limit, Exhausted, BestIsWon, OutOfNodes}
 use Rattle.finish.specs.declared.Judged.{Judged}
 use Rattle.solver.specs.Told.{Call}
 
 -- what is said with a number
 said_of : ℕ → Said
-said_of n =
-    cond (is_said n)
-    (cond (eqb n 0) Won (cond (eqb n 1) BestAtLimit (cond (eqb n 2) BestExhausted (cond (eqb n 3) Limit (cond (eqb n 4) Exhausted (cond (eqb n 5) BestIsWon OutOfNodes))))))
-    (Refused (why_of n))
+said_of n = cond (eqb n 0) Won (cond (eqb n 1) BestAtLimit (cond (eqb n 2) BestExhausted (cond (eqb n 3) Limit (cond (eqb n 4) Exhausted (cond (eqb n 5) BestIsWon OutOfNodes)))))
 
--- no refusal has a number of these
-why_said : (w : Refusal) → said_of (number_of w) ≡ Refused w
+said_law : (s : Said) → (said_of (said_number s) ≡ s) × (is_said (said_number s) ≡ true)
 unfolding said_of
-why_said w =
-    let n = number_of w in
-    ap (λ (b : Bool). cond b (cond (eqb n 0) Won (cond (eqb n 1) BestAtLimit (cond (eqb n 2) BestExhausted (cond (eqb n 3) Limit (cond (eqb n 4) Exhausted (cond (eqb n 5) BestIsWon OutOfNodes)))))) (Refused (why_of n))) (never_said w)
-    ∙ ap Refused (why_law w)
+said_law Won = (refl, refl)
+said_law BestAtLimit = (refl, refl)
+said_law BestExhausted = (refl, refl)
+said_law Limit = (refl, refl)
+said_law Exhausted = (refl, refl)
+said_law BestIsWon = (refl, refl)
+said_law OutOfNodes = (refl, refl)
 
-said_law : (s : Said) → said_of (said_number s) ≡ s
-unfolding said_of
-said_law Won = refl
-said_law BestAtLimit = refl
-said_law BestExhausted = refl
-said_law Limit = refl
-said_law Exhausted = refl
-said_law BestIsWon = refl
-said_law OutOfNodes = refl
-said_law (Refused w) = why_said w
+-- an answer's number is no refusal's
+back : Told → Result Judged Refusal
+back t = cond (is_said t.number) (Ok (record { said = said_of t.number; pops = t.pops; moves = t.moves })) (Err (why_of t.number))
+
+law : (r : Result Judged Refusal) → back (told r) ≡ r
+unfolding back
+law (Ok j) = rw ((said_law j.said).1, (said_law j.said).0) refl
+law (Err why) = rw (never_said why, why_law why) refl
+
+-- what a caller is told says what was handed back
+pub told-once : {r s : Result Judged Refusal} → told r ≡ told s → r ≡ s
+told-once e = told_once told back law e refl
 
 -- of `solve`: what is handed back and every lent byte are determined
 module _ {b : Board} (x y : Call b) where
@@ -59,8 +62,6 @@ module _ {b : Board} (x y : Call b) where
       → (x.result ≡ y.result) × ((x.scratch_after ≡ y.scratch_after) × (x.list_after ≡ y.list_after))
   solve_once p q r s =
       let o = same_outcome p q r s in (
-        sym (ap (λ (f : Said). let j : Judged = record { said = f; pops = x.result.pops; moves = x.result.moves } in j) (said_law x.result.said))
-            ∙ ap (λ (v : Outcome). let j : Judged = record { said = said_of v.number; pops = v.pops; moves = v.moves } in j) o
-            ∙ ap (λ (f : Said). let j : Judged = record { said = f; pops = y.result.pops; moves = y.result.moves } in j) (said_law y.result.said),
+        ap (λ (v : Outcome). let t : Told = record { number = v.number; pops = v.pops; moves = v.moves } in t) o,
         (ap (λ (v : Outcome). let m : Memory = lent v.nodes v.heap v.keys v.costs in m) o, ap (λ (v : Outcome). v.list) o),
       )

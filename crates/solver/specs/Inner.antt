@@ -1,10 +1,9 @@
 -- What the inner functions of the search ask and promise.
-use Rattle.std.specs.Prelude.{◌≡◌, ℕ, ◌≤◌, length}
+use Rattle.board.specs.Refusal.{answered}
+use Rattle.board.specs.declared.Refusal.{Refusal}
+use Rattle.std.specs.Prelude.{◌≡◌, ℕ, ◌≤◌, length, Ok, Result}
 use Rattle.board.specs.Inner.{Sound}
 use Rattle.board.specs.declared.Board.{Board}
-use Rattle.board.specs.Refusal.{examined_told}
-use Rattle.board.specs.declared.Examined.{Examined}
-use Rattle.board.specs.declared.Examined.TheVariants.{WellFormed}
 use Rattle.memory.specs.declared.Room.{Room}
 use Rattle.memory.specs.Memory.{Memory, Fits}
 use Rattle.solver.specs.Searched.{accepted}
@@ -18,9 +17,9 @@ pub record Roomy (r : Room) (m : Memory) : Type 0 where
   pub costed : r.entries ≤ length m.costs
 
 -- a search is accepted or refused; if it is accepted, all that it asks holds
-pub record Accepts (b : Board) (budget capacity lent : ℕ) (r : Examined) : Type 0 where
-  pub told : examined_told r ≡ accepted b budget capacity lent
-  pub sound : r ≡ WellFormed → Sound b
-  pub affordable : r ≡ WellFormed → budget ≤ 1000000
-  pub listed : r ≡ WellFormed → 1000 ≤ lent
-  pub some : r ≡ WellFormed → 1 ≤ capacity
+pub record Accepts (b : Board) (budget capacity lent : ℕ) (r : Result (Unit {0}) Refusal) : Type 0 where
+  pub told : answered r ≡ accepted b budget capacity lent
+  pub sound : r ≡ Ok tt → Sound b
+  pub affordable : r ≡ Ok tt → budget ≤ 1000000
+  pub listed : r ≡ Ok tt → 1000 ≤ lent
+  pub some : r ≡ Ok tt → 1 ≤ capacity

@@ -8,8 +8,7 @@ use Rattle.moves.specs.Written.{written, list_room}
 use Rattle.base.specs.Blank.{blank}
 use Rattle.search.specs.Freecell.{freecell, judge}
 use Rattle.search.specs.Solve.{Answer}
-use Rattle.finish.specs.Said.{said_number, moves_of}
-use Rattle.finish.specs.declared.Judged.{Judged}
+use Rattle.finish.specs.Said.{Told, moves_of}
 use Rattle.solver.specs.Capacity.{capacity_of}
 
 -- all that a search hands back and leaves: its number, its pops, the moves of its list, and every lent byte
@@ -23,9 +22,9 @@ pub record Outcome : Type 0 where
   pub costs : List ℕ
   pub list : List ℕ
 
-abbrev pub outcome : Judged → List ℕ → List ℕ → List ℕ → List ℕ → List ℕ → Outcome
+abbrev pub outcome : Told → List ℕ → List ℕ → List ℕ → List ℕ → List ℕ → Outcome
 outcome r nodes heap keys costs list =
-    record { number = said_number r.said; pops = r.pops; moves = r.moves; nodes = nodes; heap = heap; keys = keys; costs = costs; list = list }
+    record { number = r.number; pops = r.pops; moves = r.moves; nodes = nodes; heap = heap; keys = keys; costs = costs; list = list }
 
 -- the largest budget
 abbrev pub most_pops : ℕ

@@ -11,8 +11,7 @@ use Rattle.search.specs.Freecell.{freecell}
 use Rattle.search.specs.Claims.{Borne, Clash}
 use Rattle.search.specs.Played.{PlayedOut}
 use Rattle.memory.specs.Memory.{Memory}
-use Rattle.finish.specs.Said.{said_number}
-use Rattle.finish.specs.declared.Judged.{Judged}
+use Rattle.finish.specs.Said.{Told}
 use Rattle.solver.specs.Capacity.{capacity_of}
 use Rattle.solver.specs.Searched.{outcome, accepted, searched}
 
@@ -22,7 +21,7 @@ pub record Call (b : Board) : Type 0 where
   pub partial : Bool
   pub scratch : Memory
   pub list : List ℕ
-  pub result : Judged
+  pub result : Told
   pub scratch_after : Memory
   pub list_after : List ℕ
   pub holds : outcome result scratch_after.nodes scratch_after.heap scratch_after.keys scratch_after.costs list_after
@@ -34,7 +33,7 @@ IsAnswer n = (n ≤ 5) ⊎ (n ≡ 23)
 
 module _ {b : Board} where
   abbrev pub number : Call b → ℕ
-  number c = said_number c.result.said
+  number c = c.result.number
 
   -- how many nodes the lent parts hold, counted from their lengths
   abbrev pub capacity : Call b → ℕ

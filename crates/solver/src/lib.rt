@@ -1,10 +1,10 @@
 // The search in lent memory, from the refusals to the answer (after freecell/solver.rs, `solve_with_stats`, changed: NOTICE).
 #![tactic(auto)]
 
-ghost use Rattle.std.specs.Prelude.{◌≡◌, min, ◌≤◌, length};
+ghost use Rattle.std.specs.Prelude.{◌≡◌, ◌≤◌, length};
 ghost use Rattle.board.specs.Record.{shown};
 ghost use Rattle.board.specs.Inner.{Sound};
-ghost use Rattle.finish.specs.declared.Said.TheVariants.{Refused};
+ghost use Rattle.finish.specs.Said.{told};
 ghost use Rattle.finish.specs.Inner.{Gives};
 ghost use Rattle.search.specs.Freecell.{judge};
 ghost use Rattle.solver.specs.Capacity.{capacity_of, entries_of};
@@ -14,7 +14,7 @@ ghost use Rattle.memory.specs.Memory.{lent};
 ghost use Rattle.moves.specs.Written.{list_room};
 
 use board::verdict::inspect;
-use board::{Board, Examined, Refusal};
+use board::{Board, Refusal};
 use finish::{Judged, Said};
 use memory::Room;
 use moves::LIST_ROOM;
@@ -22,21 +22,12 @@ use moves::LIST_ROOM;
 // The largest budget.
 pub const MOST_POPS: usize = 1_000_000;
 
-fn lesser(a: usize, b: usize) -> usize
-    ensures { result ≡ min a b }
-{
-    if a < b {
-        return a;
-    }
-    b
-}
-
 // How many nodes the lent parts hold.
 pub fn capacity_of(nodes: usize, heap: usize, keys: usize, costs: usize) -> usize
     ensures { result ≡ capacity_of nodes heap keys costs }
 {
-    let entries = lesser(keys / 2, lesser(costs / 2, 4294967295));
-    lesser(nodes / 3, lesser(heap, entries))
+    let entries = (keys / 2).min((costs / 2).min(4294967295));
+    (nodes / 3).min(heap.min(entries))
 }
 
 // The room for so many nodes.
@@ -47,17 +38,7 @@ pub fn room_for(capacity: usize) -> Room
     let twice = capacity * 2;
     Room {
         capacity,
-        entries: lesser(twice, 4294967296),
-    }
-}
-
-fn refused(why: Refusal) -> Judged
-    ensures { result ≡ record { said = Refused why; pops = 0; moves = 0 } }
-{
-    Judged {
-        said: Said::Refused(why),
-        pops: 0,
-        moves: 0,
+        entries: twice.min(4294967296),
     }
 }
 
@@ -79,7 +60,7 @@ pub fn judge_at(
     requires list_room_in_bounds { list_room ≤ length list.old }
     ensures { Gives (judge (shown b) budget room.capacity partial) list.old list.new result }
 {
-    base::blank::clear_bytes(costs);
+    base::blank::clear(costs);
     if questions::won_at(&b.foundation) {
         return Judged {
             said: Said::Won,
@@ -93,22 +74,20 @@ pub fn judge_at(
 }
 
 // Why a search is refused, in this order: 12 to 15, 20, 21, 22.
-fn examine(b: Board, budget: usize, capacity: usize, lent: usize) -> Examined
+fn examine(b: Board, budget: usize, capacity: usize, lent: usize) -> Result<(), Refusal>
     ensures { Accepts b budget capacity lent result }
 {
-    if let Examined::Refused(why) = inspect(&b.cells, &b.foundation, &b.counts, &b.tableau) {
-        return Examined::Refused(why);
-    }
+    inspect(&b.cells, &b.foundation, &b.counts, &b.tableau)?;
     if MOST_POPS < budget {
-        return Examined::Refused(Refusal::OverBudget);
+        return Err(Refusal::OverBudget);
     }
     if lent < LIST_ROOM {
-        return Examined::Refused(Refusal::LittleRoom);
+        return Err(Refusal::LittleRoom);
     }
     if capacity == 0 {
-        return Examined::Refused(Refusal::NoNode);
+        return Err(Refusal::NoNode);
     }
-    Examined::WellFormed
+    Ok(())
 }
 
 // 12 to 15, 20, 21, 22, or the answer; the scratch is all zero after it.
@@ -121,18 +100,16 @@ pub fn solve(
     keys: &mut [u64],
     costs: &mut [u8],
     list: &mut [u8],
-) -> Judged
-    ensures { outcome result nodes.new heap.new keys.new costs.new list.new ≡ searched nodes.old heap.old keys.old costs.old list.old b budget partial }
+) -> Result<Judged, Refusal>
+    ensures { outcome (told result) nodes.new heap.new keys.new costs.new list.new ≡ searched nodes.old heap.old keys.old costs.old list.old b budget partial }
 {
     let capacity = capacity_of(nodes.len(), heap.len(), keys.len(), costs.len());
-    if let Examined::Refused(why) = examine(b, budget, capacity, list.len()) {
-        return refused(why);
-    }
+    examine(b, budget, capacity, list.len())?;
     let room = room_for(capacity);
-    let r = judge_at(b, budget, partial, room, nodes, heap, keys, costs, list);
-    base::blank::clear_words(nodes);
-    base::blank::clear_longs(heap);
-    base::blank::clear_longs(keys);
-    base::blank::clear_bytes(costs);
-    r
+    let judged = judge_at(b, budget, partial, room, nodes, heap, keys, costs, list);
+    base::blank::clear(nodes);
+    base::blank::clear(heap);
+    base::blank::clear(keys);
+    base::blank::clear(costs);
+    Ok(judged)
 }

@@ -1,54 +1,90 @@
-// The kinds of trial, each told by the first letter of its name.
-use crate::say::Row;
-use crate::{records, say};
-use board::Board;
+// The kinds of trial: each writes its label, then SCOPE.md's number, or `board` and what the plain questions say of it.
+use board::{Board, Refusal};
 use intake::{deal, image};
+use saying::Spaced;
 use std::io;
 
-// The tops of the columns of a deck that is dealt.
-fn tops(rt: &impl Print, deck: &[u8]) -> io::Result<()> {
-    let dealt = deal::deal(deck);
-    let b = dealt.board;
-    say::places(rt, Row::Columns, b, 8)
+fn verdict(rt: &impl Print, label: &str, said: Result<Board, Refusal>) -> io::Result<()> {
+    match said {
+        Ok(b) => println!(rt; "{label} board {}", Spaced(&saying::totals(b))),
+        Err(why) => println!(rt; "{label} {}", saying::refusal(why)),
+    }
 }
 
-// A line of its own for one row of places.
-fn row(rt: &impl Print, label: &[u8], name: &[u8], row: Row, b: Board, n: usize) -> io::Result<()> {
-    say::text(rt, label)?;
-    say::text(rt, name)?;
-    say::places(rt, row, b, n)
+// The tops of the columns of a deck that is dealt.
+fn tops(rt: &impl Print, label: &str, deck: &[u8]) -> io::Result<()> {
+    match deal::deal(deck) {
+        Ok(b) => println!(rt; "{label} {}", Spaced(&saying::tops(b))),
+        Err(why) => println!(rt; "{label} {}", saying::refusal(why)),
+    }
 }
 
 // Every plain answer about the board of an image.
-fn known(rt: &impl Print, label: &[u8], bytes: &[u8]) -> io::Result<()> {
-    let read = image::read(bytes);
-    let b = read.board;
-    say::reading(rt, read)?;
-    row(rt, label, b"_tops", Row::Columns, b, 8)?;
-    row(rt, label, b"_cells", Row::Cells, b, 4)?;
-    row(rt, label, b"_home", Row::Suits, b, 4)
+fn known(rt: &impl Print, label: &str, bytes: &[u8]) -> io::Result<()> {
+    let said = image::read(bytes);
+    verdict(rt, label, said)?;
+    if let Ok(b) = said {
+        println!(rt; "{label}_tops {}", Spaced(&saying::tops(b)))?;
+        println!(rt; "{label}_cells {}", Spaced(&saying::cells(b)))?;
+        println!(rt; "{label}_home {}", Spaced(&saying::home(b)))?;
+    }
+    Ok(())
 }
 
-fn record(rt: &impl Print, bytes: &[u8]) -> io::Result<()> {
-    let b = records::of(bytes);
-    say::verdict(rt, board::examine(b), b)
+// A record from its 432 bytes: cells, foundation counts, column counts, and the columns' room.
+fn record_in(bytes: &[u8]) -> Option<Board> {
+    let (cells, rest) = bytes.split_first_chunk()?;
+    let (foundation, rest) = rest.split_first_chunk()?;
+    let (counts, rest) = rest.split_first_chunk()?;
+    let (tableau, _) = rest.split_first_chunk()?;
+    Some(Board {
+        cells: *cells,
+        foundation: *foundation,
+        counts: *counts,
+        tableau: *tableau,
+    })
 }
 
-// An image, a deck, the tops of a deck, a record, questions about a record, or a known image.
-pub(crate) fn tried(
+// Column, cell and suit of one number, and the answers that ask for none. A refused question shows its number where
+// the answer would stand.
+fn answers(rt: &impl Print, label: &str, b: Board, place: usize) -> io::Result<()> {
+    let top = saying::top(questions::top_of_tableau(b, place));
+    let cell = saying::top(questions::free_cell(b, place));
+    let home = saying::count(questions::foundation_count(b, place));
+    println!(rt;
+        "{label} {top} {cell} {home} {}",
+        Spaced(&saying::totals(b))
+    )
+}
+
+// A trial about a record: whether it is well formed, or what the questions say of it.
+fn of_record(
     rt: &impl Print,
-    kind: u8,
-    label: &[u8],
+    kind: &str,
+    label: &str,
     place: usize,
     bytes: &[u8],
 ) -> io::Result<()> {
-    say::text(rt, label)?;
+    let b = record_in(bytes).ok_or(io::ErrorKind::InvalidData)?;
     match kind {
-        b'i' => say::reading(rt, image::read(bytes)),
-        b'd' => say::reading(rt, deal::deal(bytes)),
-        b't' => tops(rt, bytes),
-        b'r' => record(rt, bytes),
-        b'a' => say::answers(rt, records::of(bytes), place),
-        _ => known(rt, label, bytes),
+        "record" => verdict(rt, label, board::examine(b).map(|()| b)),
+        "ask" => answers(rt, label, b, place),
+        _ => Err(io::Error::from(io::ErrorKind::InvalidData)),
+    }
+}
+
+pub(crate) fn tried(
+    rt: &impl Print,
+    kind: &str,
+    label: &str,
+    place: usize,
+    bytes: &[u8],
+) -> io::Result<()> {
+    match kind {
+        "image" => verdict(rt, label, image::read(bytes)),
+        "deck" => verdict(rt, label, deal::deal(bytes)),
+        "tops" => tops(rt, label, bytes),
+        "known" => known(rt, label, bytes),
+        _ => of_record(rt, kind, label, place, bytes),
     }
 }

@@ -1,271 +1,202 @@
-// Sheets added that come from outside: each clause of 47 by a changed word, 45, 44, sums, wins of two lengths, sheets of other lengths.
-// Each line: a label, the number (0: added), and the words of the first sheet afterwards that are not zero, each with its place.
+// Sheets added that come from outside: each clause of 47 by a changed word, 45, 44, sums, wins of two lengths, sheets
+// of other lengths. Each line: a label, the number (0: added), and the words of the first sheet afterwards that are not
+// zero, each with its place.
 #![tactic(auto)]
 
-use board::Examined;
+use std::fmt::Display;
 use std::io;
 
-// A word of a sheet, if there is one at that place.
-fn put(sheet: &mut [u64], at: usize, value: u64) {
-    if sheet.len() <= at {
-        return;
-    }
-    sheet[at] = value;
-}
-
-fn won_figures(sheet: &mut [u64]) {
-    put(sheet, 0, 1000);
-    put(sheet, 1, 64);
-    put(sheet, 2, 1);
-    put(sheet, 3, 1);
-    put(sheet, 10, 7);
-    put(sheet, 216, 4);
-}
-
-fn won_marks(sheet: &mut [u64]) {
-    put(sheet, 11, 95);
-    put(sheet, 12, 3);
-    put(sheet, 13, 95);
-    put(sheet, 14, 3);
-    put(sheet, 110, 1);
-}
+// Words of a sheet, each with its place.
+type Words = &'static [(usize, u64)];
 
 // Deal 3 was won with 95 moves, after 7 pops.
-fn won(sheet: &mut [u64]) {
-    won_figures(sheet);
-    won_marks(sheet);
-}
+const WON: Words = &[
+    (0, 1000),
+    (1, 64),
+    (2, 1),
+    (3, 1),
+    (10, 7),
+    (11, 95),
+    (12, 3),
+    (13, 95),
+    (14, 3),
+    (110, 1),
+    (216, 4),
+];
 
 // Deal 5 came to the limit.
-fn limit(sheet: &mut [u64]) {
-    put(sheet, 0, 1000);
-    put(sheet, 1, 64);
-    put(sheet, 2, 1);
-    put(sheet, 6, 1);
-    put(sheet, 10, 1000);
-    put(sheet, 216, 16);
-}
+const LIMIT: Words = &[(0, 1000), (1, 64), (2, 1), (6, 1), (10, 1000), (216, 16)];
 
-fn number_of(said: Examined) -> u8 {
-    match said {
-        Examined::WellFormed => 0,
-        Examined::Refused(why) => board::number(why),
+// Deal 7 was won with 80 moves, deal 9 with 95, after 20 pops in all.
+const TWO_WINS: Words = &[
+    (0, 1000),
+    (1, 64),
+    (2, 1),
+    (3, 2),
+    (10, 20),
+    (11, 80),
+    (12, 7),
+    (13, 95),
+    (14, 9),
+    (95, 1),
+    (110, 1),
+    (216, 320),
+];
+
+// A label, and what is changed on the sheet of the win and on that of the limit before the second is added to the
+// first.
+const CHANGED: [(&str, Words, Words); 38] = [
+    ("budget_1000001", &[(0, 1_000_001)], &[]),
+    ("answers_more", &[(4, 1)], &[]),
+    ("answers_wrap", &[(4, u64::MAX), (5, 1)], &[]),
+    ("answers_wrap_to_1", &[(3, u64::MAX), (5, 2)], &[]),
+    ("answers_none", &[(3, 0)], &[]),
+    ("covers_more", &[(217, 1)], &[]),
+    ("covers_none", &[(216, 0)], &[]),
+    ("lengths_more", &[(111, 1)], &[]),
+    ("lengths_wrap", &[(111, u64::MAX), (112, 1)], &[]),
+    ("lengths_none", &[(110, 0)], &[]),
+    ("pops_1000", &[(10, 1000)], &[]),
+    ("pops_1001", &[(10, 1001)], &[]),
+    ("budget_0_pops_0", &[(0, 0), (10, 0)], &[]),
+    ("shortest_94", &[(11, 94)], &[]),
+    ("shortest_201", &[(11, 201)], &[]),
+    ("shortest_18446744073709551615", &[(11, u64::MAX)], &[]),
+    ("shortest_deal_4", &[(12, 4)], &[]),
+    ("shortest_deal_32001", &[(12, 32_001)], &[]),
+    ("shortest_absent", &[(11, 0), (12, 0)], &[]),
+    ("longest_96", &[(13, 96)], &[]),
+    ("longest_deal_0", &[(14, 0)], &[]),
+    ("longest_absent", &[(13, 0), (14, 0)], &[]),
+    ("length_moved", &[(110, 0), (111, 1)], &[]),
+    ("other_shortest_without_win", &[], &[(12, 5)]),
+    ("other_longest_without_win", &[], &[(13, 1)]),
+    ("other_budget_1000001", &[], &[(0, 1_000_001)]),
+    ("other_pops_1001", &[], &[(10, 1001)]),
+    ("sum", &[], &[]),
+    ("budget_999", &[(0, 999)], &[]),
+    ("capacity_65", &[(1, 65)], &[]),
+    ("capacity_0", &[(1, 0)], &[]),
+    ("flag_0", &[(2, 0)], &[]),
+    ("flag_9_is_yes", &[(2, 9)], &[]),
+    (
+        "other_flag_18446744073709551615_is_yes",
+        &[],
+        &[(2, u64::MAX)],
+    ),
+    ("common_3", &[], &[(216, 4)]),
+    ("45_before_44", &[(1, 65)], &[(216, 4)]),
+    ("47_before_45", &[(1, 65)], &[(10, 1001)]),
+    ("deals_without_number", &[], &[(216, 0)]),
+];
+
+// A label, and the lengths that the sheet of two wins tells as its shortest and its longest: a mark of the other win's
+// length is wrong.
+const MARKED: [(&str, u64, u64); 6] = [
+    ("wins_80_95", 80, 95),
+    ("wins_shortest_95", 95, 95),
+    ("wins_longest_80", 80, 80),
+    ("wins_exchanged", 95, 80),
+    ("wins_shortest_79", 79, 95),
+    ("wins_longest_96", 80, 96),
+];
+
+// Writes the words that a sheet has a place for.
+fn put(sheet: &mut [u64], words: &[(usize, u64)]) {
+    for (at, value) in words {
+        if let Some(word) = sheet.get_mut(*at) {
+            *word = *value;
+        }
     }
 }
 
-fn added(rt: &impl Print, label: &[u8], into: &mut [u64], other: &[u64]) -> io::Result<()> {
-    let said = totals::add(into, other);
-    saying::text(rt, label)?;
-    saying::byte(rt, number_of(said))?;
-    saying::sheet(rt, into, 0)
+// A sheet of these words, and zero at all other places.
+fn sheet_of(words: &[(usize, u64)]) -> [u64; 716] {
+    let mut sheet = [0; 716];
+    put(&mut sheet, words);
+    sheet
 }
 
-// Up to two words of the first sheet and one of the second are changed; place 716 changes none.
-fn tried(
+fn added(
     rt: &impl Print,
-    label: &[u8],
-    at: usize,
-    value: u64,
-    also: usize,
-    more: u64,
-    other_at: usize,
-    other: u64,
+    label: impl Display + Drop,
+    into: &mut [u64],
+    other: &[u64],
 ) -> io::Result<()> {
-    let mut a = [0u64; 716];
-    let mut b = [0u64; 716];
-    won(&mut a);
-    limit(&mut b);
-    put(&mut a, at, value);
-    put(&mut a, also, more);
-    put(&mut b, other_at, other);
-    added(rt, label, &mut a, &b)
+    let said = saying::examined(totals::add(into, other));
+    print!(rt; "{label} {said}")?;
+    for (at, word) in into.iter().enumerate() {
+        if *word != 0 {
+            print!(rt; " {at}:{word}")?;
+        }
+    }
+    println!(rt)
 }
 
-fn one(rt: &impl Print, label: &[u8], at: usize, value: u64) -> io::Result<()> {
-    tried(rt, label, at, value, 716, 0, 716, 0)
-}
-
-fn two(
-    rt: &impl Print,
-    label: &[u8],
-    at: usize,
-    value: u64,
-    also: usize,
-    more: u64,
-) -> io::Result<()> {
-    tried(rt, label, at, value, also, more, 716, 0)
-}
-
-fn other(rt: &impl Print, label: &[u8], at: usize, value: u64) -> io::Result<()> {
-    tried(rt, label, 716, 0, 716, 0, at, value)
-}
-
-fn wrong_figures(rt: &impl Print) -> io::Result<()> {
-    one(rt, b"budget_1000001", 0, 1000001)?;
-    one(rt, b"answers_more", 4, 1)?;
-    two(rt, b"answers_wrap", 4, 18446744073709551615, 5, 1)?;
-    two(rt, b"answers_wrap_to_1", 3, 18446744073709551615, 5, 2)?;
-    one(rt, b"answers_none", 3, 0)?;
-    one(rt, b"covers_more", 217, 1)?;
-    one(rt, b"covers_none", 216, 0)?;
-    one(rt, b"lengths_more", 111, 1)?;
-    two(rt, b"lengths_wrap", 111, 18446744073709551615, 112, 1)?;
-    one(rt, b"lengths_none", 110, 0)?;
-    one(rt, b"pops_1000", 10, 1000)?;
-    one(rt, b"pops_1001", 10, 1001)?;
-    two(rt, b"budget_0_pops_0", 0, 0, 10, 0)
-}
-
-fn wrong_marks(rt: &impl Print) -> io::Result<()> {
-    one(rt, b"shortest_94", 11, 94)?;
-    one(rt, b"shortest_201", 11, 201)?;
-    one(
-        rt,
-        b"shortest_18446744073709551615",
-        11,
-        18446744073709551615,
-    )?;
-    one(rt, b"shortest_deal_4", 12, 4)?;
-    one(rt, b"shortest_deal_32001", 12, 32001)?;
-    two(rt, b"shortest_absent", 11, 0, 12, 0)?;
-    one(rt, b"longest_96", 13, 96)?;
-    one(rt, b"longest_deal_0", 14, 0)?;
-    two(rt, b"longest_absent", 13, 0, 14, 0)?;
-    two(rt, b"length_moved", 110, 0, 111, 1)?;
-    other(rt, b"other_shortest_without_win", 12, 5)?;
-    other(rt, b"other_longest_without_win", 13, 1)?;
-    other(rt, b"other_budget_1000001", 0, 1000001)?;
-    other(rt, b"other_pops_1001", 10, 1001)
-}
-
-fn settings_and_numbers(rt: &impl Print) -> io::Result<()> {
-    one(rt, b"sum", 716, 0)?;
-    one(rt, b"budget_999", 0, 999)?;
-    one(rt, b"capacity_65", 1, 65)?;
-    one(rt, b"capacity_0", 1, 0)?;
-    one(rt, b"flag_0", 2, 0)?;
-    one(rt, b"flag_9_is_yes", 2, 9)?;
-    other(
-        rt,
-        b"other_flag_18446744073709551615_is_yes",
-        2,
-        18446744073709551615,
-    )?;
-    other(rt, b"common_3", 216, 4)?;
-    tried(rt, b"45_before_44", 1, 65, 716, 0, 216, 4)?;
-    tried(rt, b"47_before_45", 1, 65, 716, 0, 10, 1001)?;
-    tried(rt, b"deals_without_number", 716, 0, 716, 0, 216, 0)
+fn changed(rt: &impl Print) -> io::Result<()> {
+    for (label, first, second) in CHANGED {
+        let mut won = sheet_of(WON);
+        let mut limit = sheet_of(LIMIT);
+        put(&mut won, first);
+        put(&mut limit, second);
+        added(rt, label, &mut won, &limit)?;
+    }
+    Ok(())
 }
 
 // A sheet with itself, with deals and without.
 fn with_itself(rt: &impl Print) -> io::Result<()> {
-    let mut a = [0u64; 716];
-    let mut b = [0u64; 716];
-    won(&mut a);
-    won(&mut b);
-    added(rt, b"itself", &mut a, &b)?;
-    let mut c = [0u64; 716];
-    let d = [0u64; 716];
-    added(rt, b"empty_itself", &mut c, &d)
+    added(rt, "itself", &mut sheet_of(WON), &sheet_of(WON))?;
+    added(rt, "empty_itself", &mut sheet_of(&[]), &sheet_of(&[]))
 }
 
 // Two wins: equal lists keep the lower deal, whichever is added to which.
 fn ties(rt: &impl Print) -> io::Result<()> {
-    let mut a = [0u64; 716];
-    let mut b = [0u64; 716];
-    won(&mut a);
-    won(&mut b);
-    put(&mut b, 12, 32000);
-    put(&mut b, 14, 32000);
-    put(&mut b, 216, 0);
-    put(&mut b, 715, 9223372036854775808);
-    added(rt, b"tie", &mut a, &b)?;
-    let mut c = [0u64; 716];
-    won(&mut c);
-    added(rt, b"tie_turned", &mut b, &c)
+    let mut first = sheet_of(WON);
+    let mut second = first;
+    put(
+        &mut second,
+        &[(12, 32_000), (14, 32_000), (216, 0), (715, 1 << 63)],
+    );
+    added(rt, "tie", &mut first, &second)?;
+    added(rt, "tie_turned", &mut second, &sheet_of(WON))
 }
 
-fn two_figures(sheet: &mut [u64]) {
-    won_figures(sheet);
-    put(sheet, 3, 2);
-    put(sheet, 10, 20);
-    put(sheet, 216, 320);
-}
-
-fn two_marks(sheet: &mut [u64], shortest: u64, longest: u64) {
-    put(sheet, 11, shortest);
-    put(sheet, 12, 7);
-    put(sheet, 13, longest);
-    put(sheet, 14, 9);
-    put(sheet, 95, 1);
-    put(sheet, 110, 1);
-}
-
-// Deal 7 was won with 80 moves, deal 9 with 95, after 20 pops in all; the lengths that are marked are told.
-fn two_wins(sheet: &mut [u64], shortest: u64, longest: u64) {
-    two_figures(sheet);
-    two_marks(sheet, shortest, longest);
-}
-
-// Added from either side.
-fn marked(
-    rt: &impl Print,
-    label: &[u8],
-    turned: &[u8],
-    shortest: u64,
-    longest: u64,
-) -> io::Result<()> {
-    let mut a = [0u64; 716];
-    let mut b = [0u64; 716];
-    let mut c = [0u64; 716];
-    two_wins(&mut a, shortest, longest);
-    limit(&mut b);
-    added(rt, label, &mut a, &b)?;
-    two_wins(&mut c, shortest, longest);
-    added(rt, turned, &mut b, &c)
-}
-
-// Wins of two lengths: the shortest is the shorter, the longest the longer of them, and a mark of the other one's length is wrong.
+// Wins of two lengths: the shortest is the shorter, the longest the longer of them.
 fn two_lengths(rt: &impl Print) -> io::Result<()> {
-    marked(rt, b"wins_80_95", b"other_wins_80_95", 80, 95)?;
-    marked(rt, b"wins_shortest_95", b"other_wins_shortest_95", 95, 95)?;
-    marked(rt, b"wins_longest_80", b"other_wins_longest_80", 80, 80)?;
-    marked(rt, b"wins_exchanged", b"other_wins_exchanged", 95, 80)?;
-    marked(rt, b"wins_shortest_79", b"other_wins_shortest_79", 79, 95)?;
-    marked(rt, b"wins_longest_96", b"other_wins_longest_96", 80, 96)
+    for (label, shortest, longest) in MARKED {
+        let mut wins = sheet_of(TWO_WINS);
+        put(&mut wins, &[(11, shortest), (13, longest)]);
+        let mut limit = sheet_of(LIMIT);
+        let before = wins;
+        added(rt, label, &mut wins, &limit)?;
+        added(rt, format_args!("other_{label}"), &mut limit, &before)?;
+    }
+    Ok(())
 }
 
 // A third win, deal 3 with 95 moves: the shortest stays, the longest has the lower deal, whichever is added to which.
 fn third_win(rt: &impl Print) -> io::Result<()> {
-    let mut a = [0u64; 716];
-    let mut b = [0u64; 716];
-    let mut c = [0u64; 716];
-    two_wins(&mut a, 80, 95);
-    won(&mut b);
-    added(rt, b"third_win", &mut a, &b)?;
-    two_wins(&mut c, 80, 95);
-    added(rt, b"third_win_turned", &mut b, &c)
+    let mut third = sheet_of(WON);
+    added(rt, "third_win", &mut sheet_of(TWO_WINS), &third)?;
+    added(rt, "third_win_turned", &mut third, &sheet_of(TWO_WINS))
 }
 
 fn lengths(rt: &impl Print) -> io::Result<()> {
-    let mut a = [0u64; 715];
-    let mut b = [0u64; 717];
-    let mut c = [0u64; 716];
-    let none = [0u64; 0];
-    won(&mut a);
-    won(&mut b);
-    limit(&mut c);
-    added(rt, b"words_715", &mut a, &c)?;
-    added(rt, b"words_717", &mut b, &c)?;
-    added(rt, b"other_words_715", &mut c, &a)?;
-    added(rt, b"other_words_717", &mut c, &b)?;
-    added(rt, b"other_words_0", &mut c, &none)
+    let mut short = [0; 715];
+    let mut long = [0; 717];
+    let mut limit = sheet_of(LIMIT);
+    put(&mut short, WON);
+    put(&mut long, WON);
+    added(rt, "words_715", &mut short, &limit)?;
+    added(rt, "words_717", &mut long, &limit)?;
+    added(rt, "other_words_715", &mut limit, &short)?;
+    added(rt, "other_words_717", &mut limit, &long)?;
+    added(rt, "other_words_0", &mut limit, &[])
 }
 
 fn main(rt: HostRuntime) -> io::Result<()> {
-    wrong_figures(&rt)?;
-    wrong_marks(&rt)?;
-    settings_and_numbers(&rt)?;
+    changed(&rt)?;
     with_itself(&rt)?;
     ties(&rt)?;
     two_lengths(&rt)?;

@@ -2,6 +2,7 @@
 #![tactic(auto)]
 
 ghost use Rattle.std.specs.Prelude.{◌≡◌, true, ◌∷◌, [], ◌++◌, ◌+◌, ◌*◌, ◌≤◌, length};
+ghost use Rattle.std.specs.List.{flat_map};
 ghost use Rattle.board.specs.Record.{shown, laid};
 ghost use Rattle.board.specs.Inner.{Sound};
 ghost use Rattle.moves.specs.Record.{possible, move_of};
@@ -18,7 +19,7 @@ use board::CODES;
 use candidates::Test;
 use features::Features;
 use generate::Way;
-use moves::{Decoded, Move};
+use moves::Move;
 use score::weights;
 
 // Features change for the better.
@@ -49,7 +50,7 @@ fn is_safe<'a>(
     safe::is_safe_at(foundation, code)
 }
 
-// A move meets a test.
+// A move meets a test: a value and no closure, of which `choose` could say what it keeps by a ghost value alone.
 fn meets_test<'a>(
     test: Test,
     cells: &'a [u8; 4],
@@ -91,7 +92,7 @@ fn keep<'a>(
     requires bytes_in_bounds { (n + length (chosen (meets test (shown (laid cells.now foundation.now counts.now tableau.now))) (move_of bytes.now ∷ []))) * 5 ≤ length out.old }
     ensures { Adds out.old out.new n result (chosen (meets test (shown (laid cells.now foundation.now counts.now tableau.now))) (move_of bytes.now ∷ [])) }
 {
-    let Decoded::Is(m) = moves::decode(bytes) else {
+    let Some(m) = moves::decode(bytes) else {
         return n;
     };
     if meets_test(test, cells, foundation, counts, tableau, before, m) {
@@ -119,10 +120,8 @@ fn choose<'a>(
     ensures { Adds out.old out.new at result (chosen (meets test (shown (laid cells.now foundation.now counts.now tableau.now))) (moves_in list.now n)) }
 {
     let mut made = at;
-    let mut k = 0;
-    while k < n {
+    for k in 0..n {
         let from = k * 5;
-        let to = from + 5;
         made = keep(
             test,
             cells,
@@ -130,11 +129,31 @@ fn choose<'a>(
             counts,
             tableau,
             before,
-            &list[from..to],
+            &list[from..from + 5],
             out,
             made,
         );
-        k += 1;
+    }
+    made
+}
+
+// The moves of some kinds, one kind after the other.
+fn find_all<'a>(
+    ways: &[Way],
+    cells: &'a [u8; 4],
+    foundation: &'a [u8; 4],
+    counts: &'a [u8; 8],
+    tableau: &'a [u8; CODES],
+    out: &mut [u8],
+    at: usize,
+) -> usize
+    requires sound { Sound (laid cells.now foundation.now counts.now tableau.now) }
+    requires ways_in_bounds { (at + length (flat_map (found (shown (laid cells.now foundation.now counts.now tableau.now))) ways.now)) * 5 ≤ length out.old }
+    ensures { Adds out.old out.new at result (flat_map (found (shown (laid cells.now foundation.now counts.now tableau.now))) ways.now) }
+{
+    let mut made = at;
+    for way in ways {
+        made = generators::find_at(*way, cells, foundation, counts, tableau, out, made);
     }
     made
 }
@@ -151,23 +170,14 @@ fn home_moves_at<'a>(
     requires in_bounds { 60 ≤ length out.old }
     ensures { Adds out.old out.new 0 result (home_moves (shown (laid cells.now foundation.now counts.now tableau.now))) }
 {
-    let made = generators::find_at(
-        Way::ColumnToHome,
+    find_all(
+        &[Way::ColumnToHome, Way::CellToHome],
         cells,
         foundation,
         counts,
         tableau,
         out,
         0,
-    );
-    generators::find_at(
-        Way::CellToHome,
-        cells,
-        foundation,
-        counts,
-        tableau,
-        out,
-        made,
     )
 }
 
@@ -223,32 +233,14 @@ fn other_moves_at<'a>(
     requires tableau_in_bounds { (at + length (found (shown (laid cells.now foundation.now counts.now tableau.now)) ColumnToColumn ++ (found (shown (laid cells.now foundation.now counts.now tableau.now)) CellToColumn ++ found (shown (laid cells.now foundation.now counts.now tableau.now)) ColumnToCell))) * 5 ≤ length out.old }
     ensures { Adds out.old out.new at result (found (shown (laid cells.now foundation.now counts.now tableau.now)) ColumnToColumn ++ (found (shown (laid cells.now foundation.now counts.now tableau.now)) CellToColumn ++ found (shown (laid cells.now foundation.now counts.now tableau.now)) ColumnToCell)) }
 {
-    let runs = generators::find_at(
-        Way::ColumnToColumn,
+    find_all(
+        &[Way::ColumnToColumn, Way::CellToColumn, Way::ColumnToCell],
         cells,
         foundation,
         counts,
         tableau,
         out,
         at,
-    );
-    let downs = generators::find_at(
-        Way::CellToColumn,
-        cells,
-        foundation,
-        counts,
-        tableau,
-        out,
-        runs,
-    );
-    generators::find_at(
-        Way::ColumnToCell,
-        cells,
-        foundation,
-        counts,
-        tableau,
-        out,
-        downs,
     )
 }
 

@@ -1,4 +1,5 @@
 -- A turn of the search: a node is taken, and skipped, won, too deep or expanded.
+use Rattle.std.specs.Prelude.{None, Some, Option}
 use mathlib.Core.Path.{◌≡◌, refl, sym, ap, ◌∙◌, subst}
 use mathlib.Core.Bool.{Bool, true, false}
 use mathlib.Core.List.{List}
@@ -20,8 +21,6 @@ use Rattle.search.specs.Freecell.{freecell}
 use Rattle.search.specs.Solve.{grown_turn}
 use Rattle.memory.specs.declared.Room.{Room}
 use Rattle.memory.specs.declared.Counts.{Counts}
-use Rattle.memory.specs.declared.Growth.{Growth}
-use Rattle.memory.specs.declared.Growth.TheVariants as growth
 use Rattle.memory.specs.declared.Advance.{Advance}
 use Rattle.memory.specs.declared.Advance.TheVariants as advance
 use Rattle.memory.specs.Memory.{Memory}
@@ -50,14 +49,14 @@ module _ {root : Board} {r : Room} {m : Memory} {c : Counts} {i : ℕ} (s : Stoo
       pub visit_deep : 200 ≤ cost → Visits root r m m c i (advance.Again c)
       visit_deep l = record { went = (s.machine, refl); turns = visits_deep s.machine i s.born s.current (won_is ∙ h) (omega arith) }
 
-      pub visit_full : {new : Memory} → cost < 200 → Expands root r m new c i growth.OutOfNodes → Visits root r m new c i (advance.OutOfNodes c.pops)
+      pub visit_full : {new : Memory} → cost < 200 → Expands root r m new c i None → Visits root r m new c i (advance.OutOfNodes c.pops)
       visit_full l x =
           record {
             went = x.grew;
             turns = visits_on s.machine i s.born s.current (won_is ∙ h) (omega arith) ∙ ap (grown_turn freecell c.pops) x.grows;
           }
 
-      pub visit_grown : {new : Memory} {d : Counts} → cost < 200 → Expands root r m new c i (growth.Grown d) → Visits root r m new c i (advance.Again d)
+      pub visit_grown : {new : Memory} {d : Counts} → cost < 200 → Expands root r m new c i (Some d) → Visits root r m new c i (advance.Again d)
       visit_grown l x =
           record {
             went = (x.grew.machine, x.grew.pops);
@@ -81,9 +80,9 @@ module _ {root : Board} (begins : Sound root) {r : Room} {m : Memory} {c : Count
 
 -- ---- an expansion, when it is known how it ended
 
-module _ {root : Board} {r : Room} {m new : Memory} {c : Counts} {i : ℕ} {g : Growth} (x : Expands root r m new c i g) where
-  pub full_expands : g ≡ growth.OutOfNodes → Expands root r m new c i growth.OutOfNodes
+module _ {root : Board} {r : Room} {m new : Memory} {c : Counts} {i : ℕ} {g : Option Counts} (x : Expands root r m new c i g) where
+  pub full_expands : g ≡ None → Expands root r m new c i None
   full_expands q = subst (Expands root r m new c i) q x
 
-  pub grown_expands : {d : Counts} → g ≡ growth.Grown d → Expands root r m new c i (growth.Grown d)
+  pub grown_expands : {d : Counts} → g ≡ Some d → Expands root r m new c i (Some d)
   grown_expands q = subst (Expands root r m new c i) q x

@@ -13,7 +13,6 @@ use Rattle.memory.specs.declared.Counts.{Counts}
 use Rattle.memory.specs.declared.Advance.{Advance}
 use Rattle.memory.specs.declared.Advance.TheVariants as advance
 use Rattle.memory.specs.declared.Ended.{Ended}
-use Rattle.memory.specs.declared.Ended.TheVariants as ended
 use Rattle.memory.specs.Memory.{Memory}
 use Rattle.memory.specs.View.{node_of, state_of, turn_of, end_of}
 use Rattle.memory.specs.Machine.{Machine}
@@ -51,12 +50,6 @@ pub record Seeds (root : Board) (r : Room) (new : Memory) (c : Counts) : Type 0 
   pub begins : state_of (shown root) r new c ≡ start freecell (shown root)
 
 -- ---- the run
-
--- how a turn ends the search that does not go on
-abbrev pub ended_by : Advance → Ended
-ended_by (advance.Again c) = ended.Limit c
-ended_by (advance.WonBy i c) = ended.Won i c
-ended_by (advance.OutOfNodes p) = ended.OutOfNodes p
 
 pub record Goes (root : Board) (r : Room) (budget : ℕ) (m new : Memory) (c : Counts) (e : Ended) : Type 0 where
   pub closed : Closed (shown root) new.nodes e

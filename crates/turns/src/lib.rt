@@ -8,12 +8,12 @@ ghost use Rattle.nodes.specs.Step.{cost_at};
 ghost use Rattle.memory.specs.Machine.{Machine};
 ghost use Rattle.memory.specs.Steps.{Blank, popped};
 ghost use Rattle.costs.specs.Promises.{Vacant};
-ghost use Rattle.turns.specs.Inner.{Seeds, Stood, Visits, Advances, Goes, ended_by};
+ghost use Rattle.turns.specs.Inner.{Seeds, Stood, Visits, Advances, Goes};
 ghost use Rattle.children.specs.Inner.{Empty};
 ghost use Rattle.memory.specs.Memory.{lent};
 
 use board::Board;
-use memory::{Advance, Counts, Ended, Growth, Room};
+use memory::{Advance, Counts, Ended, Room};
 use moves::MOST_MOVES;
 
 // The first entry that a table with nothing in it gives to a key.
@@ -22,8 +22,7 @@ fn first_slot<'a>(keys: &'a [u64], costs: &'a [u8], entries: usize, key: u64) ->
     ensures { Vacant keys.now costs.now entries key result }
 {
     match costs::find(keys, costs, entries, key) {
-        costs::Slot::At(i) => i,
-        costs::Slot::Free(i) => i,
+        costs::Slot::At(i) | costs::Slot::Free(i) => i,
         costs::Slot::Full => 0,
     }
 }
@@ -81,8 +80,8 @@ fn visit(
         return Advance::Again(c);
     }
     match children::expand(root, i, cost, b, room, c, nodes, heap, keys, costs) {
-        Growth::OutOfNodes => Advance::OutOfNodes { pops: c.pops },
-        Growth::Grown(next) => Advance::Again(next),
+        None => Advance::OutOfNodes { pops: c.pops },
+        Some(next) => Advance::Again(next),
     }
 }
 
@@ -93,11 +92,9 @@ fn count_pop(c: Counts) -> Counts
     ensures { result ≡ popped c }
 {
     Counts {
-        born: c.born,
         waiting: c.waiting - 1,
-        best: c.best,
-        progress: c.progress,
         pops: c.pops + 1,
+        ..c
     }
 }
 
@@ -122,22 +119,11 @@ fn advance(
     let next = count_pop(c);
     let cost = nodes::words::cost_of(nodes, i);
     let slot = nodes::words::slot_of(nodes, i);
-    let known = base::wide(costs::cost_at(costs, slot));
+    let known = usize::from(costs::cost_at(costs, slot));
     if known != cost {
         return Advance::Again(next);
     }
     visit(root, i, cost, room, next, nodes, heap, keys, costs)
-}
-
-// How a search ends that goes on no more.
-fn ended(a: Advance) -> Ended
-    ensures { result ≡ ended_by a }
-{
-    match a {
-        Advance::Again(c) => Ended::Limit(c),
-        Advance::WonBy { node, counts } => Ended::Won { node, counts },
-        Advance::OutOfNodes { pops } => Ended::OutOfNodes { pops },
-    }
 }
 
 // Turn after turn, while something waits and the budget lasts.
@@ -158,17 +144,18 @@ pub fn go(
     ensures { Goes root room budget (lent nodes.old heap.old keys.old costs.old) (lent nodes.new heap.new keys.new costs.new) c result }
 {
     let mut counts = c;
-    let mut left = budget;
-    while 0 < counts.waiting {
-        if left == 0 {
-            return Ended::Limit(counts);
+    for _ in 0..budget {
+        if counts.waiting == 0 {
+            return Ended::Exhausted(counts);
         }
-        let a = advance(root, room, counts, nodes, heap, keys, costs);
-        let Advance::Again(next) = a else {
-            return ended(a);
-        };
-        counts = next;
-        left -= 1;
+        match advance(root, room, counts, nodes, heap, keys, costs) {
+            Advance::Again(next) => counts = next,
+            Advance::WonBy { node, counts } => return Ended::Won { node, counts },
+            Advance::OutOfNodes { pops } => return Ended::OutOfNodes { pops },
+        }
+    }
+    if 0 < counts.waiting {
+        return Ended::Limit(counts);
     }
     Ended::Exhausted(counts)
 }

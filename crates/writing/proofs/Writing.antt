@@ -1,13 +1,13 @@
 -- A list written move by move: each on the board that those before it leave, a space before each but the first.
+use Rattle.std.specs.Prelude.{Option, Some, None}
 use mathlib.Core.Path.{◌≡◌, refl, sym, ap, ap₂, ◌∙◌, subst}
 use mathlib.Core.Bool.{Bool, true, false, cond}
 use mathlib.Core.List.{List, [], ◌∷◌, ◌++◌, append_assoc, append-nil}
-use Prim.Native.Nat.{ℕ, ◌+◌, ◌-◌, ◌%◌, ◌<◌, ◌≤◌}
+use Prim.Native.Nat.{ℕ, ◌+◌, ◌<◌, ◌≤◌}
 use native.Mathlib.Omega.{arith}
 use borrow.Author.Tests.{eq-eqb, ne_eqb}
-use lib.ListN.{length, take, drop, length-append, length-drop, take-append-drop}
-use lib.Seq.{drop-drop}
-use Rattle.base.specs.Answer.{Answer, given, refused, unless}
+use lib.ListN.{length, take, drop, length-append, take-append-drop}
+use Rattle.base.specs.Answer.{Answer, given, refused, unless, given_or}
 use Rattle.base.specs.Put.{Puts}
 use Rattle.base.proofs.Putting.{puts_same, puts_long, puts_room, puts_more}
 use Rattle.board.specs.Verdict.{Verdict, fine, after}
@@ -16,18 +16,15 @@ use Rattle.board.specs.Record.{shown, board_of}
 use Rattle.board.specs.Inner.{Sound}
 use Rattle.board.specs.declared.Board.{Board}
 use Rattle.moves.specs.Move.{sayable}
-use Rattle.moves.specs.Record.{possible, move_of, move_asked, move_told}
+use Rattle.moves.specs.Record.{possible, move_of, move_asked}
 use Rattle.moves.specs.Play.{allowed, after_move}
 use Rattle.moves.specs.Causes.{ruling, played}
 use Rattle.moves.specs.declared.Move.{Move}
-use Rattle.moves.specs.declared.Decoded.{Decoded}
-use Rattle.moves.specs.declared.Decoded.TheVariants.{Is, Impossible}
 use Rattle.moves.proofs.Ruling.{fine-allowed}
 use Rattle.play.specs.Change.{Becomes, Ready}
 use Rattle.replay.specs.Step.{recorded, played_on, stepped}
 use Rattle.replay.specs.Line.{go_on, line_from, records_in}
-use Rattle.replay.proofs.Lining.{records_none, records_first}
-use Rattle.replay.proofs.Replaying.{line_five}
+use Rattle.replay.proofs.Lining.{records_none}
 use Rattle.replay.proofs.Stepping.{became, sound_after}
 use Rattle.notation.specs.Jot.{space, jot_text, line_text}
 use Rattle.sense.specs.Meant.{jot_of}
@@ -36,6 +33,7 @@ use Rattle.writing.specs.Asked.{moves_of, moves_in}
 use Rattle.writing.specs.Inner.{gap, next_text, Next, Notes, Whole}
 use Rattle.notation.specs.declared.Jot.{Jot}
 use Rattle.notation.proofs.Forming.{jot_long}
+use Rattle.writing.proofs.Looking.{records_front}
 
 -- ---- a space before each move but the first
 
@@ -72,17 +70,17 @@ module _ (at : ℕ) (j : Jot) where
 
 -- ---- one record
 
-module _ (bytes : List ℕ) (can : possible bytes ≡ true) (d : Decoded) (e : move_told d ≡ move_asked bytes) where
-  told : move_told d ≡ given (move_of bytes)
+module _ (bytes : List ℕ) (can : possible bytes ≡ true) (d : Option Move) (e : given_or 30 d ≡ move_asked bytes) where
+  told : given_or 30 d ≡ given (move_of bytes)
   unfolding move_asked
   told = e ∙ ap (λ (b : Bool). unless b 30 (given (move_of bytes))) can
 
-  pub decoded_move : {m : Move} → d ≡ Is m → m ≡ move_of bytes
-  decoded_move {m} q = let t : given m ≡ given (move_of bytes) = ap move_told (sym q) ∙ told in let s : m ≡ move_of bytes = cc in s
+  pub decoded_move : {m : Move} → d ≡ Some m → m ≡ move_of bytes
+  decoded_move {m} q = let t : given m ≡ given (move_of bytes) = ap (given_or 30) (sym q) ∙ told in let s : m ≡ move_of bytes = cc in s
 
-  pub decoded_some : {A : Type 0} → d ≡ Impossible → A
+  pub decoded_some : {A : Type 0} → d ≡ None → A
   decoded_some q =
-      let t : refused 30 ≡ given (move_of bytes) = ap move_told (sym q) ∙ told in
+      let t : refused 30 ≡ given (move_of bytes) = ap (given_or 30) (sym q) ∙ told in
       let z : ◌≡◌ {A = ℕ} 0 1 = cc in absurd (let w : ⊥ = omega arith in w)
 
 module _ {b : Board} {bytes : List ℕ} {at room : ℕ} (n : Next b bytes at room) {m : Move} (q : m ≡ move_of bytes) where
@@ -181,105 +179,87 @@ line_turns b r rs e = by_step (stepped b r) refl e
 
 -- ---- what the loop knows
 
--- so far every record was written and played, and what is written and what is left are the whole text
-pub record Written (bytes : List ℕ) (b now : Board) (old new : List ℕ) (at to : ℕ) : Type 0 where
+-- so far every record was written and played; what is written and what is left are the whole text
+pub record Written (bytes : List ℕ) (b now : Board) (old new rest : List ℕ) (to : ℕ) : Type 0 where
   pub sound : Sound now
-  pub five : at % 5 ≡ 0
-  pub upto : at ≤ length bytes
-  pub plays : (line_from now (records_in (drop at bytes))).verdict ≡ fine
+  pub plays : (line_from now (records_in rest)).verdict ≡ fine
   pub done : List ℕ
   pub puts : Puts old new 0 to done
-  pub whole : text_of (shown b) (moves_in bytes) ≡ done ++ left to (jots_of (shown now) (moves_in (drop at bytes)))
+  pub whole : text_of (shown b) (moves_in bytes) ≡ done ++ left to (jots_of (shown now) (moves_in rest))
 
 module _ {bytes : List ℕ} {b : Board} {old : List ℕ} (w : Whole b bytes (length old)) where
-  pub written_start : Written bytes b b old old 0 0
+  pub written_start : {rest : List ℕ} → rest ≡ bytes → Written bytes b b old old rest 0
   unfolding text_of
-  written_start =
+  written_start e =
       record {
         sound = w.sound;
-        five = refl;
-        upto = omega arith;
-        plays = w.plays;
+        plays = ap (λ (l : List ℕ). (line_from b (records_in l)).verdict) e ∙ w.plays;
         done = [];
         puts = puts_nothing refl;
-        whole = left_start (jots_of (shown b) (moves_in bytes));
+        whole = left_start (jots_of (shown b) (moves_in bytes)) ∙ ap (λ (l : List ℕ). left 0 (jots_of (shown b) (moves_in l))) (sym e);
       }
 
-  module _ {now : Board} {new : List ℕ} {at to : ℕ} (r : Written bytes b now old new at to) where
-    pub five_more : at < length bytes → at + 5 ≤ length bytes
-    five_more h = let p = r.five in let q = line_five bytes w.line in omega arith
-
-    -- the bytes of the next record
-    abbrev record_next : List ℕ
-    record_next = take (at + 5 - at) (drop at bytes)
-
-    records_next : at < length bytes → records_in (drop at bytes) ≡ record_next ∷ records_in (drop (at + 5) bytes)
-    records_next h =
-        let f = five_more h in
-        records_first (drop at bytes) (let d = length-drop at bytes in omega arith)
-        ∙ ap (λ (l : List ℕ). take 5 (drop at bytes) ∷ records_in l) (drop-drop 5 at bytes)
-        ∙ ap (λ (n : ℕ). take n (drop at bytes) ∷ records_in (drop (at + 5) bytes)) (let q : 5 ≡ at + 5 - at = omega arith in q)
-
-    turns : at < length bytes → Turns now record_next (records_in (drop (at + 5) bytes))
-    turns h = line_turns now record_next (records_in (drop (at + 5) bytes)) (ap (λ (rs : List (List ℕ)). (line_from now rs).verdict) (sym (records_next h)) ∙ r.plays)
-
-    abbrev jot_now : Jot
-    jot_now = jot_of (shown now) (move_of record_next)
-
-    -- the next move, and those after it
-    whole_next : at < length bytes → text_of (shown b) (moves_in bytes)
-        ≡ (r.done ++ next_text to jot_now) ++ left (to + length (next_text to jot_now)) (jots_of (after_move (shown now) (move_of record_next)) (moves_in (drop (at + 5) bytes)))
-    unfolding moves_in moves_of jots_of
-    whole_next h =
-        r.whole
-        ∙ ap (λ (rs : List (List ℕ)). r.done ++ left to (jots_of (shown now) (moves_of rs))) (records_next h)
-        ∙ ap (λ (l : List ℕ). r.done ++ l) (left_next to jot_now (jots_of (after_move (shown now) (move_of record_next)) (moves_in (drop (at + 5) bytes))))
-        ∙ sym (append_assoc r.done (next_text to jot_now) (left (to + length (next_text to jot_now)) (jots_of (after_move (shown now) (move_of record_next)) (moves_in (drop (at + 5) bytes)))))
-
+  module _ {now : Board} {new rest : List ℕ} {to : ℕ} (r : Written bytes b now old new rest to) where
     done_fits : length r.done ≤ length old
     done_fits =
         let l = ap length r.whole in
         let f = w.fits in
-        let a = length-append r.done (left to (jots_of (shown now) (moves_in (drop at bytes)))) in
+        let a = length-append r.done (left to (jots_of (shown now) (moves_in rest))) in
         omega arith
 
     pub written_long : length new ≡ length old
     written_long = let g = done_fits in puts_long (let q : 0 + length r.done ≤ length old = omega arith in q) r.puts
 
-    next_room : at < length bytes → to + length (next_text to jot_now) ≤ length new
-    next_room h =
-        let l = ap length (whole_next h) in
-        let f = w.fits in
-        let a = length-append (r.done ++ next_text to jot_now) (left (to + length (next_text to jot_now)) (jots_of (after_move (shown now) (move_of record_next)) (moves_in (drop (at + 5) bytes)))) in
-        let d = length-append r.done (next_text to jot_now) in
-        let n = written_long in
-        let t = r.puts.after in
-        omega arith
+    -- the next record, and those after it
+    abbrev jot_now : List ℕ → Jot
+    jot_now next = jot_of (shown now) (move_of next)
 
-    pub written_next : at < length bytes → Next now record_next to (length new)
-    written_next h = let t = turns h in record { sound = r.sound; can = t.can; ok = t.ok; fits = next_room h }
+    module _ (next later : List ℕ) (e : rest ≡ next ++ later) (five : length next ≡ 5) where
+      turns : Turns now next (records_in later)
+      turns =
+          line_turns now next (records_in later)
+          (ap (λ (rs : List (List ℕ)). (line_from now rs).verdict) (sym (records_front next later five) ∙ ap records_in (sym e)) ∙ r.plays)
 
-    pub written_turn : at < length bytes → {more : List ℕ} {next : ℕ} {then : Board} → Notes now record_next new more to next then
-        → Written bytes b then old more (at + 5) next
-    written_turn h {more} {next} {then} n =
-        let t = turns h in
-        let g = done_fits in
-        record {
-          sound = n.sound;
-          five = (let p = r.five in omega arith);
-          upto = five_more h;
-          plays = ap (λ (d : Board). (line_from d (records_in (drop (at + 5) bytes))).verdict) (sym (became n.becomes)) ∙ t.rest;
-          done = r.done ++ next_text to jot_now;
-          puts = puts_more (let q : 0 + length r.done ≤ length old = omega arith in q) r.puts n.puts;
-          whole = whole_next h
-              ∙ ap₂ (λ (k : ℕ) (u : Table). (r.done ++ next_text to jot_now) ++ left k (jots_of u (moves_in (drop (at + 5) bytes)))) (sym n.puts.after) (sym n.becomes.shows);
-        }
+      whole_next : text_of (shown b) (moves_in bytes)
+          ≡ (r.done ++ next_text to (jot_now next)) ++ left (to + length (next_text to (jot_now next))) (jots_of (after_move (shown now) (move_of next)) (moves_in later))
+      unfolding moves_in moves_of jots_of
+      whole_next =
+          r.whole
+          ∙ ap (λ (rs : List (List ℕ)). r.done ++ left to (jots_of (shown now) (moves_of rs))) (ap records_in e ∙ records_front next later five)
+          ∙ ap (λ (l : List ℕ). r.done ++ l) (left_next to (jot_now next) (jots_of (after_move (shown now) (move_of next)) (moves_in later)))
+          ∙ sym (append_assoc r.done (next_text to (jot_now next)) (left (to + length (next_text to (jot_now next))) (jots_of (after_move (shown now) (move_of next)) (moves_in later))))
 
-    pub written_end : length bytes ≤ at → Puts old new 0 to (text_of (shown b) (moves_in bytes))
+      next_room : to + length (next_text to (jot_now next)) ≤ length new
+      next_room =
+          let l = ap length whole_next in
+          let f = w.fits in
+          let a = length-append (r.done ++ next_text to (jot_now next)) (left (to + length (next_text to (jot_now next))) (jots_of (after_move (shown now) (move_of next)) (moves_in later))) in
+          let d = length-append r.done (next_text to (jot_now next)) in
+          let n = written_long in
+          let t = r.puts.after in
+          omega arith
+
+      pub written_next : Next now next to (length new)
+      written_next = let t = turns in record { sound = r.sound; can = t.can; ok = t.ok; fits = next_room }
+
+      pub written_turn : {more : List ℕ} {end : ℕ} {then : Board} → Notes now next new more to end then → Written bytes b then old more later end
+      written_turn {more} {end} {then} n =
+          let t = turns in
+          let g = done_fits in
+          record {
+            sound = n.sound;
+            plays = ap (λ (d : Board). (line_from d (records_in later)).verdict) (sym (became n.becomes)) ∙ t.rest;
+            done = r.done ++ next_text to (jot_now next);
+            puts = puts_more (let q : 0 + length r.done ≤ length old = omega arith in q) r.puts n.puts;
+            whole = whole_next
+                ∙ ap₂ (λ (k : ℕ) (u : Table). (r.done ++ next_text to (jot_now next)) ++ left k (jots_of u (moves_in later))) (sym n.puts.after) (sym n.becomes.shows);
+          }
+
+    pub written_end : length rest < 5 → Puts old new 0 to (text_of (shown b) (moves_in bytes))
     unfolding left moves_in moves_of jots_of
     written_end h =
         puts_same
         (sym (r.whole
-        ∙ ap (λ (rs : List (List ℕ)). r.done ++ left to (jots_of (shown now) (moves_of rs))) (records_none (drop at bytes) (let d = length-drop at bytes in omega arith))
+        ∙ ap (λ (rs : List (List ℕ)). r.done ++ left to (jots_of (shown now) (moves_of rs))) (records_none rest h)
         ∙ append-nil r.done))
         r.puts

@@ -1,5 +1,5 @@
 -- A list written as it is asked for: what is told, and what is left in the lent room. A refusal changes nothing.
-use Rattle.std.specs.Prelude.{◌≡◌, List, [], ◌∷◌, ℕ, eqb, leb, length}
+use Rattle.std.specs.Prelude.{◌≡◌, List, [], ◌∷◌, ℕ, eqb, leb, length, Result}
 use Rattle.base.specs.Answer.{unless}
 use Rattle.base.specs.Put.{over}
 use Rattle.board.specs.Verdict.{fine, after}
@@ -10,7 +10,7 @@ use Rattle.moves.specs.declared.Move.{Move}
 use Rattle.replay.specs.Line.{Ending, line_from, records_in, is_line}
 use Rattle.sense.specs.Outcome.{Outcome, gives, refuses, refuses_at, checked, checked_at, counted, line_told}
 use Rattle.writing.specs.Lines.{text_of, writable_first}
-use Rattle.sense.specs.declared.LineAnswer.{LineAnswer}
+use Rattle.sense.specs.declared.LineError.{LineError}
 
 -- 200 moves of four signs, 199 spaces
 abbrev pub text_room : ℕ
@@ -47,6 +47,6 @@ text_after (refuses n) old = old
 text_after (refuses_at n p) old = old
 
 -- a list of moves is written into lent room
-pub record Writes (b : Board) (bytes old new : List ℕ) (r : LineAnswer) : Type 0 where
+pub record Writes (b : Board) (bytes old new : List ℕ) (r : Result ℕ LineError) : Type 0 where
   pub told : line_told r ≡ counted (write_asked b bytes (length old))
   pub room : new ≡ text_after (write_asked b bytes (length old)) old

@@ -1,19 +1,20 @@
 -- What the inner functions of the writer ask for and promise.
-use Rattle.std.specs.Prelude.{◌≡◌, true, cond, List, [], ◌∷◌, ◌++◌, ℕ, ◌+◌, ◌≤◌, eqb, length}
+use Rattle.board.specs.Refusal.{answered}
+use Rattle.std.specs.Prelude.{◌≡◌, true, cond, List, [], ◌∷◌, ◌++◌, ℕ, ◌+◌, ◌<◌, ◌≤◌, eqb, length, Option, Some, None}
 use Rattle.base.specs.Put.{Puts}
 use Rattle.board.specs.Verdict.{fine}
-use Rattle.board.specs.Refusal.{examined_told}
 use Rattle.board.specs.Record.{shown}
 use Rattle.board.specs.Inner.{Sound}
 use Rattle.board.specs.declared.Board.{Board}
 use Rattle.moves.specs.Record.{possible, move_of}
 use Rattle.moves.specs.Play.{allowed, after_move}
+use Rattle.moves.specs.declared.Move.{Move}
 use Rattle.play.specs.Change.{Becomes}
 use Rattle.replay.specs.Line.{Ending, line_from, records_in, is_line}
 use Rattle.replay.specs.declared.Stopped.{Stopped}
 use Rattle.notation.specs.Jot.{space, jot_text}
 use Rattle.sense.specs.Meant.{jot_of}
-use Rattle.writing.specs.Lines.{text_of}
+use Rattle.writing.specs.Lines.{text_of, writable_first}
 use Rattle.writing.specs.Asked.{moves_in}
 use Rattle.notation.specs.declared.Jot.{Jot}
 
@@ -45,7 +46,12 @@ pub record Whole (b : Board) (bytes : List ℕ) (room : ℕ) : Type 0 where
   pub plays : (line_from b (records_in bytes)).verdict ≡ fine
   pub fits : length (text_of (shown b) (moves_in bytes)) ≤ room
 
+-- the place of the first move that cannot be written, if there is one
+abbrev pub Unwritable : List Move → Option ℕ → Type 0
+Unwritable ms None = writable_first ms ≡ length ms
+Unwritable ms (Some place) = (place ≡ writable_first ms) × (place < length ms)
+
 -- how a replay ends, without its board
 pub record Stops (e : Ending) (r : Stopped) : Type 0 where
-  pub said : examined_told r.said ≡ e.verdict
+  pub said : answered r.said ≡ e.verdict
   pub moves : r.moves ≡ e.moves

@@ -9,31 +9,33 @@ ghost use Rattle.moves.specs.Move.{sayable};
 ghost use Rattle.moves.specs.Record.{move_said};
 ghost use Rattle.replay.specs.Line.{line_from, records_in, is_line};
 ghost use Rattle.sense.specs.Meant.{writable, jot_of};
-ghost use Rattle.writing.specs.Lines.{text_of, writable_first};
+ghost use Rattle.writing.specs.Lines.{text_of};
 ghost use Rattle.writing.specs.Asked.{moves_in, Writes};
-ghost use Rattle.writing.specs.Inner.{gap, next_text, Next, Notes, Whole, Stops};
+ghost use Rattle.writing.specs.Inner.{gap, next_text, Next, Notes, Whole, Unwritable, Stops};
 
 use base::put::put_bytes;
 use board::verdict::inspect;
-use board::{Board, CODES, Examined, Refusal};
-use moves::{Decoded, MOST_MOVES, Move};
+use board::{Board, CODES, Refusal};
+use moves::{MOST_MOVES, Move};
 use notation::put::put_jot;
 use replay::{Stopped, is_line, replay_to};
-use sense::LineAnswer;
+use sense::LineError;
 use sense::noted::jot_at;
 
 // Room for any line: four signs a move, and a space between two.
 pub const TEXT_ROOM: usize = 5 * MOST_MOVES - 1;
 
 // A space, but for the first move.
+#[tactic(auto, using(crate::proofs::Writing::puts_nothing), unfolding(crate::specs::Inner::gap))]
 fn put_gap(text: &mut [u8], at: usize) -> usize
     requires { at + length (gap at) ≤ length text.old }
     ensures { Puts text.old text.new at result (gap at) }
 {
     if at == 0 {
-        return at;
+        at
+    } else {
+        put_bytes(text, at, b" ")
     }
-    put_bytes(text, at, b" ")
 }
 
 // A move on a board, after what is written up to a place.
@@ -69,7 +71,7 @@ fn write_record(
     requires { Next (laid cells.old foundation.old counts.old tableau.old) bytes.now at (length text.old) }
     ensures { Notes (laid cells.old foundation.old counts.old tableau.old) bytes.now text.old text.new at result (laid cells.new foundation.new counts.new tableau.new) }
 {
-    let Decoded::Is(m) = moves::decode(bytes) else {
+    let Some(m) = moves::decode(bytes) else {
         return at;
     };
     let end = put_move(m, cells, foundation, counts, tableau, text, at);
@@ -90,12 +92,8 @@ fn write_moves(
     ensures { Puts text.old text.new 0 result (text_of (shown (laid cells.old foundation.old counts.old tableau.old)) (moves_in bytes.now)) }
 {
     let mut to = 0;
-    let mut at = 0;
-    while at < bytes.len() {
-        let end = at + 5;
-        let record = &bytes[at..end];
+    for record in bytes.chunks_exact(5) {
         to = write_record(record, cells, foundation, counts, tableau, text, to);
-        at = end;
     }
     to
 }
@@ -123,28 +121,19 @@ fn write_all(b: Board, bytes: &[u8], text: &mut [u8]) -> usize
 fn is_writable(kind: u8) -> bool
     ensures { (f t n code : ℕ) → result ≡ writable (move_said kind f t n code) }
 {
-    if kind == 0 {
-        return false;
-    }
-    kind < 6
+    (1..6).contains(&kind)
 }
 
-// How many moves come before the first that cannot be written.
-fn first_unwritable(bytes: &[u8]) -> usize
-    requires { length bytes.now % 5 ≡ 0 }
-    ensures { result ≡ writable_first (moves_in bytes.now) }
+// The place of the first move that cannot be written, if there is one.
+fn first_unwritable(bytes: &[u8]) -> Option<usize>
+    ensures { Unwritable (moves_in bytes.now) result }
 {
-    let mut moves = 0;
-    let mut at = 0;
-    while at < bytes.len() {
-        let kind = bytes[at];
-        if !is_writable(kind) {
-            return moves;
+    for (place, record) in bytes.chunks_exact(5).enumerate() {
+        if !is_writable(record[0]) {
+            return Some(place);
         }
-        moves += 1;
-        at += 5;
     }
-    moves
+    None
 }
 
 // A list replayed from a board, which stays as it is.
@@ -167,7 +156,7 @@ fn play_through(b: Board, bytes: &[u8]) -> Stopped
 }
 
 // The first bad move, 43, 21, or the text, on a well formed board.
-fn write_line_at(b: Board, bytes: &[u8], text: &mut [u8]) -> LineAnswer
+fn write_line_at(b: Board, bytes: &[u8], text: &mut [u8]) -> Result<usize, LineError>
     requires sound { Sound b }
     requires bytes_value { is_line bytes.now ≡ true }
     ensures { Writes b bytes.now text.old text.new result }
@@ -175,30 +164,25 @@ fn write_line_at(b: Board, bytes: &[u8], text: &mut [u8]) -> LineAnswer
     let stopped = play_through(b, bytes);
     let said = stopped.said;
     let moves = stopped.moves;
-    if let Examined::Refused(why) = said {
-        return LineAnswer::RefusedAt(why, moves);
+    if let Err(why) = said {
+        return Err(LineError::At(why, moves));
     }
-    let place = first_unwritable(bytes);
-    let all = bytes.len() / 5;
-    if place < all {
-        return LineAnswer::RefusedAt(Refusal::NotWritable, place);
+    if let Some(place) = first_unwritable(bytes) {
+        return Err(LineError::At(Refusal::NotWritable, place));
     }
     if text.len() < TEXT_ROOM {
-        return LineAnswer::Refused(Refusal::LittleRoom);
+        return Err(Refusal::LittleRoom.into());
     }
-    let end = write_all(b, bytes, text);
-    LineAnswer::Count(end)
+    Ok(write_all(b, bytes, text))
 }
 
 // 12 to 15, 31, the first bad move with its place, 43 with its place, 21, or the text at the front of the room.
-pub fn write_line(b: Board, bytes: &[u8], text: &mut [u8]) -> LineAnswer
+pub fn write_line(b: Board, bytes: &[u8], text: &mut [u8]) -> Result<usize, LineError>
     ensures { Writes b bytes.now text.old text.new result }
 {
-    if let Examined::Refused(why) = inspect(&b.cells, &b.foundation, &b.counts, &b.tableau) {
-        return LineAnswer::Refused(why);
+    inspect(&b.cells, &b.foundation, &b.counts, &b.tableau)?;
+    if !is_line(bytes) {
+        return Err(Refusal::WrongList.into());
     }
-    if is_line(bytes) {
-        return write_line_at(b, bytes, text);
-    }
-    LineAnswer::Refused(Refusal::WrongList)
+    write_line_at(b, bytes, text)
 }

@@ -1,25 +1,14 @@
--- What `corbelnib_chain` leaves to be shown: another length, a refusal, or where the chain ended.
+-- What `corbelnib_chain` leaves to be shown: the chain ends where a line ends that no move stops.
 use mathlib.Core.Path.{ap, ◌∙◌}
-use Prim.Native.Nat.{ℕ}
-use mathlib.Core.List.{List}
-use Rattle.base.specs.Answer.{Answer, given}
-use Rattle.board.specs.Verdict.{after}
-use Rattle.board.specs.Record.{examined}
+use Rattle.base.specs.Answer.{Answer}
 use Rattle.replay.specs.Line.{Ending}
-use Rattle.crossing.specs.Crossing.{left}
-use Rattle.crossing.specs.Boards.{line_left, chained, chain_left}
-use Rattle.crossing.proofs.Crossing.{no_board, a_board}
-use Rattle.crossing.proofs.Handing.{chain_no, chain_yes}
+use Rattle.safe.specs.Asked.{chain_asked}
+use Rattle.crossing.specs.Boards.{line_left, chain_left}
+use Rattle.crossing.proofs.Crossing.{asked_then}
+use Rattle.crossing.proofs.Handing.{chain_ended}
+use borrow.Author.Rules.{rules}
 use Rattle.corbelnib.proofs.corbelnib_chain.Goals as goal
-
-pub returns-then-board-ne-BYTES : goal.returns-then-board-ne-BYTES
-unfolding chain_left line_left
-returns-then-board-ne-BYTES c = no_board (λ a. line_left a c.args.after.now c.args.moves.now) c.args.board.now (λ b. after (examined b) (given (chained b))) c.if-board-ne-BYTES.true
-
-pub returns-in-Refused : goal.returns-in-Refused
-unfolding chain_left line_left
-returns-in-Refused c = ap (λ (n : ℕ). left {A = List ℕ × ℕ} n (c.args.after.now, c.args.moves.now)) c.number.ensures ∙ ap (λ (a : Answer Ending). line_left a c.args.after.now c.args.moves.now) (chain_no c.safe_chain-chained.ensures c.in-Refused.is) ∙ a_board (λ a. line_left a c.args.after.now c.args.moves.now) c.args.board.now (λ b. after (examined b) (given (chained b))) c.board_in.ensures c.if-board-ne-BYTES.false
 
 pub returns : goal.returns
 unfolding chain_left
-returns c = c.line.ensures ∙ ap (λ (a : Answer Ending). line_left a c.args.after.now c.args.moves.now) (chain_yes c.safe_chain-chained.ensures c.in_default.is) ∙ a_board (λ a. line_left a c.args.after.now c.args.moves.now) c.args.board.now (λ b. after (examined b) (given (chained b))) c.board_in.ensures c.if-board-ne-BYTES.false
+returns c = c.line.ensures ∙ ap (λ (a : Answer Ending). line_left a c.args.after.now c.args.moves.now) (chain_ended c.args.board.now c.and_then-chain.result c.map.result (asked_then c.lent.result c.args.board.now c.lent.ensures c.and_then-chain.result c.and_then-chain.ensures chain_asked (λ b k. search rules)) (λ x q. search rules) (λ why q. search rules))

@@ -4,11 +4,11 @@ use Rattle.corbelnib.specs.Calls.{search_left}
 use Rattle.corbelnib.proofs.Judging.{judge_none, judge_answers, judge_refuses}
 use Rattle.corbelnib.proofs.corbelnib_judge.Goals as goal
 
-pub returns-then-board-ne-BYTES : goal.returns-then-board-ne-BYTES
-returns-then-board-ne-BYTES c = ap search_left (judge_none c.args.nodes.now c.args.heap.now c.args.keys.now c.args.costs.now c.args.list.now c.args.pops.now c.args.moves.now c.args.board.now c.args.budget c.args.partial c.if-board-ne-BYTES.true)
+pub returns-in-Err : goal.returns-in-Err
+returns-in-Err c = ap search_left (judge_none c.args.nodes.now c.args.heap.now c.args.keys.now c.args.costs.now c.args.list.now c.args.pops.now c.args.moves.now c.args.board.now c.args.budget c.args.partial c.lent.result c.lent.ensures c.in-Err.is c.number.ensures)
 
-pub returns-then-is_answer : goal.returns-then-is_answer
-returns-then-is_answer c = ap search_left (judge_answers c.args.nodes.now c.args.heap.now c.args.keys.now c.args.costs.now c.args.list.now c.args.pops.now c.args.moves.now c.args.board.now c.args.budget c.args.partial c.if-board-ne-BYTES.false c.solve-judged.result c.board_in-b.ensures refl c.solve-judged.ensures c.number-number.ensures c.is_answer.ensures c.if-is_answer.true)
+pub returns-in-Ok-solve : goal.returns-in-Ok-solve
+returns-in-Ok-solve c = ap search_left (judge_answers c.args.nodes.now c.args.heap.now c.args.keys.now c.args.costs.now c.args.list.now c.args.pops.now c.args.moves.now c.args.board.now c.args.budget c.args.partial c.lent.result c.lent.ensures c.in-Ok.is refl c.solve.result c.solve.ensures c.in-Ok-solve.is c.number-in-Ok-solve.ensures)
 
-pub returns : goal.returns
-returns c = ap search_left (judge_refuses c.args.nodes.now c.args.heap.now c.args.keys.now c.args.costs.now c.args.list.now c.args.pops.now c.args.moves.now c.args.board.now c.args.budget c.args.partial c.if-board-ne-BYTES.false c.solve-judged.result c.board_in-b.ensures refl c.solve-judged.ensures c.number-number.ensures c.is_answer.ensures c.if-is_answer.false)
+pub returns-in-Err-solve : goal.returns-in-Err-solve
+returns-in-Err-solve c = ap search_left (judge_refuses c.args.nodes.now c.args.heap.now c.args.keys.now c.args.costs.now c.args.list.now c.args.pops.now c.args.moves.now c.args.board.now c.args.budget c.args.partial c.lent.result c.lent.ensures c.in-Ok.is refl c.solve.result c.solve.ensures c.in-Err-solve.is c.number-in-Err-solve.ensures)

@@ -1,19 +1,13 @@
--- What `corbelnib_scores` leaves to be shown: another length, or both scores.
+-- What `corbelnib_scores` leaves to be shown: both scores are of one board.
 use mathlib.Core.Path.{ap, ◌∙◌}
 use lib.IntN.{ℤ}
 use Rattle.base.specs.Answer.{Answer}
-use Rattle.score.specs.Scores.{heuristic, progress}
-use Rattle.score.specs.Asked.{features_asked}
-use Rattle.crossing.specs.Crossing.{left, crossed}
-use Rattle.crossing.specs.Values.{value_left, scores_left}
-use Rattle.crossing.proofs.Crossing.{no_board, a_board}
+use Rattle.score.specs.Asked.{heuristic_asked, progress_asked}
+use Rattle.crossing.specs.Values.{value_left}
+use Rattle.crossing.proofs.Crossing.{asked_then}
 use Rattle.crossing.proofs.Telling.{scores_left_lem}
+use borrow.Author.Rules.{rules}
 use Rattle.corbelnib.proofs.corbelnib_scores.Goals as goal
 
-pub returns-then-board-ne-BYTES : goal.returns-then-board-ne-BYTES
-unfolding scores_left
-returns-then-board-ne-BYTES c = no_board (λ a. crossed {B = ℤ × ℤ} a (c.args.heuristic.now, c.args.progress.now) (λ f. left 0 (heuristic f, progress f))) c.args.board.now features_asked c.if-board-ne-BYTES.true
-
 pub returns : goal.returns
-unfolding scores_left
-returns c = scores_left_lem c.board_in-b.result c.args.heuristic.now c.args.progress.now (c.score.ensures ∙ ap (λ (a : Answer ℤ). value_left a c.args.heuristic.now) c.heuristic_of.ensures) (c.score-2.ensures ∙ ap (λ (a : Answer ℤ). value_left a c.args.progress.now) c.progress_of.ensures) ∙ a_board (λ a. crossed {B = ℤ × ℤ} a (c.args.heuristic.now, c.args.progress.now) (λ f. left 0 (heuristic f, progress f))) c.args.board.now features_asked c.board_in-b.ensures c.if-board-ne-BYTES.false
+returns c = scores_left_lem c.args.board.now c.args.heuristic.now c.args.progress.now (c.value.ensures ∙ ap (λ (a : Answer ℤ). value_left a c.args.heuristic.now) (asked_then c.lent-start.result c.args.board.now c.lent-start.ensures c.and_then.result c.and_then.ensures heuristic_asked (λ b k. search rules))) (c.value-2.ensures ∙ ap (λ (a : Answer ℤ). value_left a c.args.progress.now) (asked_then c.lent-start.result c.args.board.now c.lent-start.ensures c.and_then-2.result c.and_then-2.ensures progress_asked (λ b k. search rules)))

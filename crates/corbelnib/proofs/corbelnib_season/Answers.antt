@@ -3,4 +3,4 @@ use Rattle.corbelnib.proofs.Seasoning.{season_left_lem}
 use Rattle.corbelnib.proofs.corbelnib_season.Goals as goal
 
 pub returns : goal.returns
-returns c = season_left_lem c.args.partial c.season-said.ensures c.verdict.ensures
+returns c = season_left_lem c.args.partial c.season.ensures c.verdict.ensures

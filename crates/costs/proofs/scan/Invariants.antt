@@ -1,10 +1,6 @@
 -- What `scan` leaves to be shown: one entry more, or the end of the scan.
-use Prim.Native.Nat.{◌≤◌, ◌-◌}
 use Rattle.costs.specs.Promises.{Passed}
 use Rattle.costs.proofs.scan.Given as goal
 
 abbrev pub invariant-loop-i : goal.invariant-loop-i
-invariant-loop-i l = (l.i ≤ l.end) × Passed l.keys l.costs l.from l.i l.k
-
-abbrev pub decreases-loop-i : goal.decreases-loop-i
-decreases-loop-i l = l.end - l.i
+invariant-loop-i l = Passed l.keys l.costs l.from l.i l.k

@@ -4,12 +4,6 @@ use Rattle.features.proofs.Bounds.{immediate_is, immediate_most}
 use Rattle.board.specs.Record.{laid}
 use Rattle.features.proofs.immediate_foundation_count.Goals as goal
 
-pub columns_home-from_columns-requires : goal.columns_home-from_columns-requires
-columns_home-from_columns-requires c = record { good_piles = c.requires.in_piles; good_columns = c.requires.in_columns }
-
-pub cells_home-from_cells-requires : goal.cells_home-from_cells-requires
-cells_home-from_cells-requires c = record { good_piles = c.requires.in_piles; good_cells = c.requires.in_cells }
-
 pub overflow_add-result : goal.overflow_add-result
 overflow_add-result c = omega (arith, immediate_is (laid c.args.cells.now c.args.foundation.now c.args.counts.now c.args.tableau.now) c.columns_home-from_columns.ensures c.cells_home-from_cells.ensures, immediate_most (laid c.args.cells.now c.args.foundation.now c.args.counts.now c.args.tableau.now) c.requires)
 

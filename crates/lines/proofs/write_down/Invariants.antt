@@ -4,6 +4,3 @@ use Rattle.lines.proofs.write_down.Given as goal
 
 abbrev pub invariant-loop-left : goal.invariant-loop-left
 invariant-loop-left l = Telling l.initial.board l.path l.deep l.initial.list l.board l.left l.list l.records
-
-abbrev pub decreases-loop-left : goal.decreases-loop-left
-decreases-loop-left l = l.left

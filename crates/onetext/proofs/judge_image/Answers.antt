@@ -16,14 +16,14 @@ put_line-requires c = record { in_bounds = omega arith; numbers_in_bounds = omeg
 pub returns-then-image-gt1024 : goal.returns-then-image-gt1024
 returns-then-image-gt1024 c = tells_put c.args.image.now c.if-out-lt4096.false (text_long c.args.image.now c.if-image-gt1024.true) c.put_line.ensures.puts
 
-pub put_line-requires-in-Refused : goal.put_line-requires-in-Refused
-put_line-requires-in-Refused c = record { in_bounds = omega arith; numbers_in_bounds = omega (arith, c.if-out-lt4096.false) }
+pub put_line-requires-in-Err : goal.put_line-requires-in-Err
+put_line-requires-in-Err c = record { in_bounds = omega arith; numbers_in_bounds = omega (arith, c.if-out-lt4096.false) }
 
-pub returns-in-Refused : goal.returns-in-Refused
-returns-in-Refused c = tells_put c.args.image.now c.if-out-lt4096.false (ap (λ (n : ℕ). line (n ∷ [])) c.number.ensures ∙ text_refused c.args.image.now c.if-image-gt1024.false c.read-read.ensures c.in-Refused.is) c.put_line-in-Refused.ensures.puts
+pub returns-in-Err : goal.returns-in-Err
+returns-in-Err c = tells_put c.args.image.now c.if-out-lt4096.false (ap (λ (n : ℕ). line (n ∷ [])) c.number.ensures ∙ text_refused c.args.image.now c.if-image-gt1024.false c.read.ensures c.in-Err.is) c.put_line-in-Err.ensures.puts
 
 pub put_hand-requires : goal.put_hand-requires
-put_hand-requires c = record { fine = read_board c.args.image.now c.if-image-gt1024.false c.read-read.ensures c.in_default.is; in_bounds = omega (arith, c.if-out-lt4096.false) }
+put_hand-requires c = record { fine = read_board c.args.image.now c.if-image-gt1024.false c.read.ensures c.in-Ok.is; in_bounds = omega (arith, c.if-out-lt4096.false) }
 
-pub returns : goal.returns
-returns c = tells_put c.args.image.now c.if-out-lt4096.false (text_given c.args.image.now c.if-image-gt1024.false c.read-read.ensures c.in_default.is) c.put_hand.ensures
+pub returns-in-Ok : goal.returns-in-Ok
+returns-in-Ok c = tells_put c.args.image.now c.if-out-lt4096.false (text_given c.args.image.now c.if-image-gt1024.false c.read.ensures c.in-Ok.is) c.put_hand.ensures

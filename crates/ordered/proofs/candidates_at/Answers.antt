@@ -3,12 +3,6 @@ use native.Mathlib.Omega.{arith}
 use Rattle.ordered.proofs.Ordering.{few_tried, holds-tried, names_tried, adds_candidates}
 use Rattle.ordered.proofs.candidates_at.Goals as goal
 
-pub compute_features-before-requires : goal.compute_features-before-requires
-compute_features-before-requires c = c.requires.sound
-
-pub tried_at-n-requires : goal.tried_at-n-requires
-tried_at-n-requires c = record { sound = c.requires.sound; before_value = c.compute_features-before.ensures; tried_room_in_bounds = omega arith }
-
 pub rank_all-requires : goal.rank_all-requires
 rank_all-requires c = record { holds = holds-tried c.requires.sound c.tried_at-n.ensures (omega arith); before_value = c.compute_features-before.ensures; n_in_bounds = omega (arith, few_tried c.requires.sound c.tried_at-n.ensures); n_bound = omega (arith, few_tried c.requires.sound c.tried_at-n.ensures) }
 

@@ -18,9 +18,6 @@ drop_top-requires c = let r = ready_for c.requires c.in-TableauToTableau.is in l
 pub drop_top-requires-in-TableauToFoundation : goal.drop_top-requires-in-TableauToFoundation
 drop_top-requires-in-TableauToFoundation c = let r = ready_for c.requires c.in-TableauToFoundation.is in record { good_columns = r.sound.in_columns; i_bound = column_from r _ refl; n_bound = one_there r _ refl }
 
-pub go_home-requires : goal.go_home-requires
-go_home-requires c = c.requires.sound.in_piles
-
 pub drop_top-requires-in-TableauToFreeCell : goal.drop_top-requires-in-TableauToFreeCell
 drop_top-requires-in-TableauToFreeCell c = let r = ready_for c.requires c.in-TableauToFreeCell.is in record { good_columns = r.sound.in_columns; i_bound = column_from r _ refl; n_bound = one_there r _ refl }
 
@@ -41,9 +38,6 @@ lay-requires c = let r = ready_for c.requires c.in-FreeCellToTableau.is in recor
 
 pub bounds-cells-cell_index-in-FreeCellToFoundation : goal.bounds-cells-cell_index-in-FreeCellToFoundation
 bounds-cells-cell_index-in-FreeCellToFoundation c = let r = ready_for c.requires c.in-FreeCellToFoundation.is in cell_from r _ refl
-
-pub go_home-requires-in-FreeCellToFoundation : goal.go_home-requires-in-FreeCellToFoundation
-go_home-requires-in-FreeCellToFoundation c = c.requires.sound.in_piles
 
 pub leave_home-requires : goal.leave_home-requires
 leave_home-requires c = let r = ready_for c.requires c.in-FoundationToTableau.is in record { good_piles = r.sound.in_piles; bound = home-there r _ refl }

@@ -2,9 +2,6 @@
 use Rattle.priority.proofs.After.{sound_then, features_then, bounded_then}
 use Rattle.priority.proofs.features_after.Goals as goal
 
-pub apply_to-requires : goal.apply_to-requires
-apply_to-requires c = c.requires
-
 pub compute_features-requires : goal.compute_features-requires
 compute_features-requires c = sound_then c.requires c.apply_to.ensures
 

@@ -9,12 +9,6 @@ use Rattle.priority.proofs.Sizes.{priority_adds_most, priority-takes_most}
 use Rattle.priority.proofs.After.{priority_is, priority_fits}
 use Rattle.priority.proofs.local_priority.Goals as goal
 
-pub compute_features-before-requires : goal.compute_features-before-requires
-compute_features-before-requires c = c.requires.sound
-
-pub features_after-after-requires : goal.features_after-after-requires
-features_after-after-requires c = c.requires
-
 pub priority_adds-requires : goal.priority_adds-requires
 priority_adds-requires c = let b = laid c.args.cells.now c.args.foundation.now c.args.counts.now c.args.tableau.now in
     record { bounded = subst Bounded (sym c.compute_features-before.ensures) (bounded b c.requires.sound); bounded_2 = c.features_after-after.ensures.bounded }

@@ -1,12 +1,8 @@
 -- What `cell_at` leaves to be shown: empty, or the card.
-use native.Mathlib.Omega.{arith}
 use borrow.Author.Tests.{eq-eqb, ne_eqb}
 use Rattle.board.proofs.Tables.{cell_is_card}
 use Rattle.questions.specs.Questions.{cell_of}
 use Rattle.questions.proofs.cell_at.Goals as goal
-
-pub bounds-cells-i : goal.bounds-cells-i
-bounds-cells-i c = omega (arith, c.requires.good_cells.four)
 
 pub returns-then-code : goal.returns-then-code
 unfolding cell_of

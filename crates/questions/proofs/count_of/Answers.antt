@@ -1,38 +1,20 @@
--- What `count_of` leaves to be shown: a loop that adds up hits.
-use mathlib.Core.Path.{◌≡◌, refl, ap, ◌∙◌}
-use mathlib.Core.Bool.{cond}
-use mathlib.Core.List.{List}
-use Prim.Native.Nat.{ℕ, ◌+◌}
-use native.Mathlib.Omega.{arith}
-use lib.Dec.{eqb}
-use lib.ListN.{length, get_or}
-use borrow.Author.Tests.{eq-eqb, ne_eqb}
-use Rattle.base.specs.Words.{sum}
-use Rattle.base.proofs.Sums.{sum_next}
-use borrow.Author.Rules.{rules}
+-- What `count_of` leaves to be shown: hits added up are no more than the bytes are.
+use Rattle.std.proofs.Common.{refl, cond, eqb, ◌∙◌, rules, arith}
+use borrow.Author.Tests.{tests}
+use Rattle.std.proofs.lemmas.Iterator.{YieldsList-from_slice, YieldsList-from_map}
+use Rattle.std.proofs.lemmas.Iterator.Consumers.{sum_by_from_yields_List, fits_by_from_yields_list}
+use Rattle.std.proofs.lemmas.List.Sums.{count_by-le-length}
+use Rattle.base.proofs.Lists.{sum_by-places}
 use Rattle.questions.proofs.count_of.Goals as goal
-use Rattle.questions.proofs.count_of.Goals.{then-s-i, else-s-i}
 
-abbrev hit : List ℕ → ℕ → ℕ → ℕ
-hit s x k = cond (eqb (get_or s k 0) x) 1 0
-
-hits : (s : List ℕ) (x i : ℕ) → get_or s i 0 ≡ x → sum (i + 1) (hit s x) ≡ sum i (hit s x) + 1
-hits s x i e = sum_next (hit s x) i ∙ ap (λ (n : ℕ). sum i (hit s x) + n) (rw (eq-eqb (get_or s i 0) x e))
-
-misses : (s : List ℕ) (x i : ℕ) → (get_or s i 0 ≡ x → ⊥) → sum (i + 1) (hit s x) ≡ sum i (hit s x)
-misses s x i d = sum_next (hit s x) i ∙ rw (ne_eqb (get_or s i 0) x d) (omega arith)
-
-pub loop-i-init : goal.loop-i-init
-unfolding sum
-loop-i-init c = (search rules, search rules, refl)
-
-pub loop-i-preserved : goal.loop-i-preserved
-loop-i-preserved c =
-    elim c.if-s-i.branch [
-      | then-s-i w ↦ (search rules, omega arith, omega (arith, hits c.args.s.now c.args.x c.loop-i.i w.if-s-i.true, w.n-is))
-      | else-s-i w ↦ (search rules, omega arith, omega (arith, misses c.args.s.now c.args.x c.loop-i.i w.if-s-i.false, w.n-is))
-    ]
+pub sum-requires-clause-fits : goal.sum-requires-clause-fits
+sum-requires-clause-fits c =
+    fits_by_from_yields_list (λ y. cond (eqb y c.args.x) 1 0) c.args.s.now _ _
+    (YieldsList-from_map _ (λ y. cond (eqb y c.args.x) 1 0) (YieldsList-from_slice c.args.s.now cc) c.map.ensures.closure (λ x r q k. search (rules, tests)))
+    (omega (arith, count_by-le-length (λ y. eqb y c.args.x) c.args.s.now))
 
 pub returns : goal.returns
 returns c =
-    c.loop-i.invariant.2 ∙ ap (λ (m : ℕ). sum m (hit c.args.s.now c.args.x)) (let e : c.loop-i.i ≡ length c.args.s.now = omega arith in e)
+    sum_by_from_yields_List (λ y. cond (eqb y c.args.x) 1 0) c.args.s.now c.map.result _ c.sum.ensures.ran
+    (YieldsList-from_map _ (λ y. cond (eqb y c.args.x) 1 0) (YieldsList-from_slice c.args.s.now cc) c.map.ensures.closure (λ x r q k. search (rules, tests)))
+    ∙ sum_by-places (λ y. cond (eqb y c.args.x) 1 0) c.args.s.now refl

@@ -1,4 +1,6 @@
 -- What `top_of_tableau` leaves to be shown: the record's refusals, then the place's.
+use Rattle.std.specs.Prelude.{Option}
+use Rattle.card.specs.declared.Card.{Card}
 use mathlib.Core.Path.{sym, ap, ◌∙◌}
 use mathlib.Core.List.{List}
 use Prim.Native.Nat.{ℕ}
@@ -6,26 +8,25 @@ use native.Mathlib.Omega.{arith}
 use Rattle.base.specs.Answer.{given}
 use Rattle.questions.specs.Questions.{top_of, top_asked}
 use Rattle.board.proofs.Soundness.{sound}
-use Rattle.questions.proofs.Asking.{after_no, after_yes, verdict_fine, place_no, place_yes, shown_column}
-use Rattle.questions.specs.declared.Top.{Top}
+use Rattle.questions.proofs.Asking.{after_err, after_yes, verdict_fine, place_no, place_yes, shown_column}
 use borrow.Author.Rules.{rules}
 use Rattle.questions.proofs.top_of_tableau.Goals as goal
 
-pub returns-in-Refused : goal.returns-in-Refused
+pub returns-in_err-inspect : goal.returns-in_err-inspect
 unfolding top_asked
-returns-in-Refused c = after_no _ c.inspect.ensures c.in-Refused.is
+returns-in_err-inspect c = after_err _ c.inspect.ensures c.from_residual.result c.in_err-inspect.was c.from_residual.ensures.1
 
 pub returns-then-i-gt7 : goal.returns-then-i-gt7
 unfolding top_asked
 returns-then-i-gt7 c =
-    sym (after_yes _ c.inspect.ensures c.in_default.is ∙ place_no c.args.i 8 _ c.if-i-gt7.true)
+    sym (after_yes _ c.inspect.ensures c.in_ok-inspect.was ∙ place_no c.args.i 8 _ c.if-i-gt7.true)
 
 pub top_at-requires : goal.top_at-requires
 top_at-requires c =
-    record { good_columns = (sound c.args.b (record { four = search rules; piles = search rules; eight = search rules; full = search rules }) (verdict_fine c.inspect.ensures c.in_default.is)).in_columns; i_bound = omega arith }
+    record { good_columns = (sound c.args.b (record { four = search rules; piles = search rules; eight = search rules; full = search rules }) (verdict_fine c.inspect.ensures c.in_ok-inspect.was)).in_columns; i_bound = omega arith }
 
 pub returns : goal.returns
 unfolding top_asked
 returns c =
-    ap (λ (t : Top). given t) c.top_at.ensures ∙ ap (λ (l : List ℕ). given (top_of l)) (shown_column c.args.b c.args.i (omega arith))
-    ∙ sym (after_yes _ c.inspect.ensures c.in_default.is ∙ place_yes c.args.i 8 _ (omega arith))
+    ap (λ (t : Option Card). given t) c.top_at.ensures ∙ ap (λ (l : List ℕ). given (top_of l)) (shown_column c.args.b c.args.i (omega arith))
+    ∙ sym (after_yes _ c.inspect.ensures c.in_ok-inspect.was ∙ place_yes c.args.i 8 _ (omega arith))

@@ -1,32 +1,18 @@
--- What `total_at` leaves to be shown: a loop that adds the four counts up.
-use mathlib.Core.Path.{◌≡◌, refl, ap, ◌∙◌}
-use Prim.Native.Nat.{ℕ}
-use native.Mathlib.Omega.{arith}
-use lib.ListN.{get_or}
-use Rattle.base.specs.Words.{sum}
-use Rattle.questions.specs.Questions.{home_count}
-use Rattle.base.proofs.Sums.{sum_next}
-use borrow.Author.Rules.{rules}
+-- What `total_at` leaves to be shown: the sum of the four counts, which is small.
+use Rattle.std.proofs.Common.{rules, arith, ◌∙◌}
+use Rattle.std.proofs.lemmas.Iterator.{YieldsList-from_slice, YieldsList-from_map}
+use Rattle.std.proofs.lemmas.Iterator.Consumers.{sum_by_from_yields_List, fits_by_from_yields_list}
+use Rattle.questions.proofs.Totals.{home_52, home_added}
 use Rattle.questions.proofs.total_at.Goals as goal
 
-pub loop-s-init : goal.loop-s-init
-unfolding sum
-loop-s-init c = (search rules, search rules, refl)
-
-pub bounds-foundation-s : goal.bounds-foundation-s
-bounds-foundation-s c = omega (arith, c.requires.four)
-
-pub overflow_add-total : goal.overflow_add-total
-overflow_add-total c = omega (arith, c.wide-total.ensures, c.requires.within c.loop-s.s c.loop-s-test.true)
-
-pub loop-s-preserved : goal.loop-s-preserved
-loop-s-preserved c = (
-  search rules,
-  omega (arith, c.wide-total.ensures, c.requires.within c.loop-s.s c.loop-s-test.true),
-  omega (arith, c.wide-total.ensures, sum_next (λ k. get_or c.args.foundation.now k 0) c.loop-s.s),
-)
+pub sum-requires-clause-fits : goal.sum-requires-clause-fits
+sum-requires-clause-fits c =
+    fits_by_from_yields_list (λ x. x) c.args.foundation.now _ _
+    (YieldsList-from_map _ (λ x. x) (YieldsList-from_slice c.args.foundation.now cc) c.map.ensures.closure (λ x r q k. search rules))
+    (omega (arith, home_added c.requires, home_52 c.args.foundation.now c.requires))
 
 pub returns : goal.returns
-unfolding home_count
 returns c =
-    c.loop-s.invariant.2 ∙ ap (λ (n : ℕ). sum n (λ k. get_or c.args.foundation.now k 0)) (let e : c.loop-s.s ≡ 4 = omega arith in e)
+    sum_by_from_yields_List (λ x. x) c.args.foundation.now c.map.result _ c.sum.ensures.ran
+    (YieldsList-from_map _ (λ x. x) (YieldsList-from_slice c.args.foundation.now cc) c.map.ensures.closure (λ x r q k. search rules))
+    ∙ home_added c.requires

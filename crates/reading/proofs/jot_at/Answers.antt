@@ -1,23 +1,16 @@
 -- What `jot_at` leaves to be shown: each sign leads on, ends the move, or is wrong.
 use mathlib.Core.Path.{sym, ◌∙◌}
-use native.Mathlib.Omega.{arith}
 use Rattle.reading.proofs.Cutting.{cutting_start, cutting_on, cutting_ends, cutting_stop, cutting_end}
 use Rattle.reading.proofs.jot_at.Goals as goal
 
 pub loop-i-init : goal.loop-i-init
 loop-i-init c = cutting_start _ _ c.requires
 
-pub bounds-text-i : goal.bounds-text-i
-bounds-text-i c = c.loop-i-test.true
-
 pub returns-in-Ends : goal.returns-in-Ends
 returns-in-Ends c = record { told = cutting_ends c.loop-i.invariant c.loop-i-test.true (sym c.step_from.ensures ∙ c.in-Ends.is) }
 
 pub returns-in-Wrong : goal.returns-in-Wrong
 returns-in-Wrong c = record { told = cutting_stop c.loop-i.invariant c.loop-i-test.true (sym c.step_from.ensures ∙ c.in-Wrong.is) }
-
-pub loop-i-smaller : goal.loop-i-smaller
-loop-i-smaller c = omega (arith, c.loop-i-test.true)
 
 pub loop-i-preserved : goal.loop-i-preserved
 loop-i-preserved c = cutting_on c.loop-i.invariant c.loop-i-test.true (sym c.step_from.ensures ∙ c.in-On.is)

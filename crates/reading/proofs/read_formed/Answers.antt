@@ -1,10 +1,7 @@
 -- What `read_formed` leaves to be shown: 31, or what the moves give.
 use Rattle.board.specs.Record.{shown}
-use Rattle.reading.proofs.Handing.{formed_few, formed_many}
+use Rattle.reading.proofs.Handing.{formed_many}
 use Rattle.reading.proofs.read_formed.Goals as goal
 
 pub returns-then-n-gt-MOST_MOVES : goal.returns-then-n-gt-MOST_MOVES
-returns-then-n-gt-MOST_MOVES c = formed_many (shown c.args.b) c.args.text.now c.requires.text_value c.if-n-gt-MOST_MOVES.true
-
-pub read_few-requires : goal.read_few-requires
-read_few-requires c = record { sound = c.requires.sound; few = formed_few (shown c.args.b) c.args.text.now c.requires.text_value c.if-n-gt-MOST_MOVES.false; list_room_in_bounds = c.requires.list_room_in_bounds }
+returns-then-n-gt-MOST_MOVES c = rw c.into.ensures (formed_many (shown c.args.b) c.args.text.now c.requires.text_value c.if-n-gt-MOST_MOVES.true)

@@ -7,13 +7,13 @@ use Rattle.replay.proofs.Stepping.{moves_no, moves_as, step_said, step_none}
 use Rattle.replay.proofs.apply_record_to.Goals as goal
 
 pub make-requires : goal.make-requires
-make-requires c = record { sound = c.requires; m_value = ap sayable_told (sym c.in-Is.is) ∙ c.decode.ensures.result_value_2 }
+make-requires c = record { sound = c.requires; m_value = ap sayable_told (sym c.in-Some.is) ∙ c.decode.ensures.result_value_2 }
 
-pub returns-in-Is : goal.returns-in-Is
-returns-in-Is c = let b = laid c.args.cells.now c.args.foundation.now c.args.counts.now c.args.tableau.now in
-    record { moves = moves_as (step_said b c.in-Is.m c.args.bytes.now c.decode.ensures.result_value c.in-Is.is) c.make.ensures.moves; sound = c.make.ensures.sound_2 }
+pub returns-in-Some : goal.returns-in-Some
+returns-in-Some c = let b = laid c.args.cells.now c.args.foundation.now c.args.counts.now c.args.tableau.now in
+    record { moves = moves_as (step_said b c.in-Some.m c.args.bytes.now c.decode.ensures.result_value c.in-Some.is) c.make.ensures.moves; sound = c.make.ensures.sound_2 }
 
-pub returns-in-Impossible : goal.returns-in-Impossible
-returns-in-Impossible c = let b = laid c.args.cells.now c.args.foundation.now c.args.counts.now c.args.tableau.now in
+pub returns-in-None : goal.returns-in-None
+returns-in-None c = let b = laid c.args.cells.now c.args.foundation.now c.args.counts.now c.args.tableau.now in
     let b = laid c.args.cells.now c.args.foundation.now c.args.counts.now c.args.tableau.now in
-    record { moves = moves_no {why = OutOfRange} (step_none b c.args.bytes.now c.decode.ensures.result_value c.in-Impossible.is); sound = c.requires }
+    record { moves = moves_no {why = OutOfRange} (step_none b c.args.bytes.now c.decode.ensures.result_value c.in-None.is); sound = c.requires }

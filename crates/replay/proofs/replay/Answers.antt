@@ -10,10 +10,10 @@ use Rattle.replay.proofs.Replaying.{line_five, bad_board, no_line, good_line}
 use borrow.Author.Rules.{rules}
 use Rattle.replay.proofs.replay.Goals as goal
 
-pub returns-in-Refused : goal.returns-in-Refused
-returns-in-Refused c =
+pub returns-in-Err : goal.returns-in-Err
+returns-in-Err c =
     let start = c.args in
-    ends_no (bad_board start.b start.bytes.now c.inspect.ensures c.in-Refused.is)
+    ends_no (bad_board start.b start.bytes.now c.inspect.ensures c.in-Err.is)
 
 pub replay_at-requires : goal.replay_at-requires
 replay_at-requires c =

@@ -12,9 +12,6 @@ use Rattle.rules.proofs.most_at.Goals as goal
 pub overflow_add-one_more : goal.overflow_add-one_more
 overflow_add-one_more c = omega (arith, c.empty_cells_at-one_more.ensures, cells_at_most c.args.cells.now)
 
-pub usable_at-times-requires : goal.usable_at-times-requires
-usable_at-times-requires c = record { good_columns = c.requires.good_columns; to_bound = c.requires.to_bound }
-
 pub overflow_shl-times : goal.overflow_shl-times
 overflow_shl-times c = omega (arith, c.usable_at-times.ensures, usable_at_most (listed 8 (column_at c.args.counts.now c.args.tableau.now)) c.args.to)
 

@@ -1,16 +1,10 @@
 -- What `top_value` leaves to be shown: the column's last card, if it has one.
-use native.Mathlib.Omega.{arith}
-use Rattle.rules.proofs.Lengths.{value_none, value_some}
+use mathlib.Core.Path.{sym, ◌∙◌}
+use Rattle.rules.proofs.Lengths.{no_value, last_value}
 use Rattle.rules.proofs.top_value.Goals as goal
 
-pub returns-then-count-eq0 : goal.returns-then-count-eq0
-returns-then-count-eq0 c = value_none c.requires.good_columns c.args.i c.wide-count.result c.requires.i_bound c.wide-count.ensures c.if-count-eq0.true
+pub returns-in-Some : goal.returns-in-Some
+returns-in-Some c = rw (sym c.column_at.ensures.value) (c.from.ensures ∙ last_value c.column_at.result.now c.in-Some.top.now c.in-Some.ensures.value)
 
-pub overflow_add-last : goal.overflow_add-last
-overflow_add-last c = omega (arith, c.wide-count.ensures, c.requires.good_columns.within c.args.i c.requires.i_bound)
-
-pub bounds-tableau-last : goal.bounds-tableau-last
-bounds-tableau-last c = omega (arith, c.wide-count.ensures, c.requires.good_columns.within c.args.i c.requires.i_bound, c.requires.good_columns.full, c.if-count-eq0.false)
-
-pub returns : goal.returns
-returns c = value_some c.requires.good_columns c.args.i c.wide-count.result c.requires.i_bound c.wide-count.ensures c.if-count-eq0.false c.wide.ensures
+pub returns-in-None : goal.returns-in-None
+returns-in-None c = rw (sym c.column_at.ensures.value) (no_value c.column_at.result.now c.in-None.ensures.value)

@@ -1,12 +1,8 @@
 -- What `usable_at` leaves to be shown: an empty destination is not counted.
 use mathlib.Core.Path.{sym, ap, ◌∙◌, subst}
 use Prim.Native.Nat.{ℕ, ◌-◌, ◌≤◌}
-use native.Mathlib.Omega.{arith}
 use Rattle.rules.proofs.Laying.{some_empty, usable_empty, usable_other, column_count}
 use Rattle.rules.proofs.usable_at.Goals as goal
-
-pub bounds-counts-to : goal.bounds-counts-to
-bounds-counts-to c = omega (arith, c.requires.good_columns.eight)
 
 pub overflow_sub-result : goal.overflow_sub-result
 overflow_sub-result c = subst (λ (n : ℕ). 1 ≤ n) (sym c.empty_columns_at-empties.ensures) (some_empty _ c.args.to c.requires.to_bound (column_count c.requires.good_columns c.args.to c.requires.to_bound ∙ c.if-counts-to-eq0.true))

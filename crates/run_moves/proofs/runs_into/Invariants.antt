@@ -1,5 +1,4 @@
 -- What `runs_into` leaves to be shown: length after length.
-use Prim.Native.Nat.{◌-◌}
 use Rattle.board.specs.Record.{shown, laid}
 use Rattle.generate.specs.Inner.{tried_run}
 use Rattle.generate.proofs.Writing.{Walked}
@@ -7,6 +6,3 @@ use Rattle.run_moves.proofs.runs_into.Given as goal
 
 abbrev pub invariant-loop-k : goal.invariant-loop-k
 invariant-loop-k l = Walked (tried_run (shown (laid l.cells l.foundation l.counts l.tableau)) l.i l.j) l.last l.initial.out l.n l.out l.made l.k
-
-abbrev pub decreases-loop-k : goal.decreases-loop-k
-decreases-loop-k l = l.last - l.k

@@ -10,7 +10,7 @@ unfolding red
 returns-in-Red c =
     ap is_red (sym c.in-Red.is ∙ c.color.ensures ∙ ap (λ (k : Card). color_of k.suit) c.card_of.ensures)
 
-pub returns-in-Black : goal.returns-in-Black
+pub returns-in_default : goal.returns-in_default
 unfolding red
-returns-in-Black c =
-    ap is_red (sym c.in-Black.is ∙ c.color.ensures ∙ ap (λ (k : Card). color_of k.suit) c.card_of.ensures)
+returns-in_default c =
+    ap is_red (sym c.in_default.is ∙ c.color.ensures ∙ ap (λ (k : Card). color_of k.suit) c.card_of.ensures)

@@ -6,6 +6,3 @@ use Rattle.safe.proofs.chain_to.Given as goal
 
 abbrev pub invariant-loop-moves : goal.invariant-loop-moves
 invariant-loop-moves l = Chaining (laid l.initial.cells l.initial.foundation l.initial.counts l.initial.tableau) (laid l.cells l.foundation l.counts l.tableau) l.moves
-
-abbrev pub decreases-loop-moves : goal.decreases-loop-moves
-decreases-loop-moves l = 52 - l.moves

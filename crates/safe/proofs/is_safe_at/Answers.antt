@@ -11,14 +11,14 @@ returns-then-code-le2 c = low_safe c.args.foundation.now c.args.code (omega (ari
 pub loop-s-init : goal.loop-s-init
 loop-s-init c = (search rules, every_none (enough c.args.foundation.now c.args.code))
 
-pub returns-then-home-needed_of : goal.returns-then-home-needed_of
-returns-then-home-needed_of c = too_few c.args.foundation.now c.args.code (omega (arith, c.if-code-le2.false)) c.loop-s.s c.wide-suit.ensures c.needed_of.ensures (omega (arith, c.loop-s-test.true)) c.if-home-needed_of.true
+pub returns-then-foundation-suit : goal.returns-then-foundation-suit
+returns-then-foundation-suit c = too_few c.args.foundation.now c.args.code (omega (arith, c.if-code-le2.false)) c.loop-s.s c.from-suit.ensures c.needed_of.ensures (omega (arith, c.loop-s-test.true)) c.if-foundation-suit.true
 
 pub loop-s-preserved : goal.loop-s-preserved
 loop-s-preserved c = (
   search rules,
   every_more (enough c.args.foundation.now c.args.code) c.loop-s.s c.loop-s.invariant.1
-      (one_enough c.args.foundation.now c.args.code (omega (arith, c.if-code-le2.false)) c.loop-s.s c.wide-suit.ensures c.needed_of.ensures c.if-home-needed_of.false),
+      (one_enough c.args.foundation.now c.args.code (omega (arith, c.if-code-le2.false)) c.loop-s.s c.from-suit.ensures c.needed_of.ensures c.if-foundation-suit.false),
 )
 
 pub returns : goal.returns

@@ -8,6 +8,3 @@ use Rattle.safe.proofs.is_safe_at.Given as goal
 
 abbrev pub invariant-loop-s : goal.invariant-loop-s
 invariant-loop-s l = (l.s ≤ 4) × (every l.s (enough l.foundation l.code) ≡ true)
-
-abbrev pub decreases-loop-s : goal.decreases-loop-s
-decreases-loop-s l = 4 - l.s

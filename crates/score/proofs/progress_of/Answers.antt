@@ -10,12 +10,12 @@ use borrow.Author.Rules.{rules}
 use Rattle.score.proofs.progress_of.Goals as goal
 
 pub progress_score-requires : goal.progress_score-requires
-progress_score-requires c = told_small c.args.b c.features_of.ensures c.in-Are.is (record { four = search rules; piles = search rules; eight = search rules; full = search rules })
+progress_score-requires c = told_small c.args.b c.features_of.ensures c.in-Ok.is (record { four = search rules; piles = search rules; eight = search rules; full = search rules })
 
-pub returns-in-Are : goal.returns-in-Are
+pub returns-in-Ok : goal.returns-in-Ok
 unfolding progress_asked
-returns-in-Are c = ap (λ (z : ℤ). given z) (passed_on (progress_fits c.in-Are.f (told_small c.args.b c.features_of.ensures c.in-Are.is (record { four = search rules; piles = search rules; eight = search rules; full = search rules }))) c.progress_score.ensures) ∙ told_given c.args.b c.features_of.ensures c.in-Are.is (λ f. given (progress f))
+returns-in-Ok c = ap (λ (z : ℤ). given z) (passed_on (progress_fits c.in-Ok.f (told_small c.args.b c.features_of.ensures c.in-Ok.is (record { four = search rules; piles = search rules; eight = search rules; full = search rules }))) c.progress_score.ensures) ∙ told_given c.args.b c.features_of.ensures c.in-Ok.is (λ f. given (progress f))
 
-pub returns-in-Refused : goal.returns-in-Refused
+pub returns-in-Err : goal.returns-in-Err
 unfolding progress_asked
-returns-in-Refused c = told_no c.args.b c.features_of.ensures _ c.in-Refused.is
+returns-in-Err c = told_no c.args.b c.features_of.ensures _ c.in-Err.is

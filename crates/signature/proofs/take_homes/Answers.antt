@@ -1,23 +1,16 @@
 -- What `take_homes` leaves to be shown: suit by suit.
-use Rattle.std.proofs.Common.{◌≡◌, ℕ, ap, ◌∙◌, arith, rules}
-use Rattle.base.specs.Words.{listed, concat}
+use Rattle.std.proofs.Common.{refl, ◌∙◌, rules}
+use borrow.Author.Tests.{tests}
+use Rattle.std.proofs.lemmas.Iterator.{YieldsList-from_range}
+use Rattle.std.proofs.lemmas.Iterator.Consumers.{fold_from_yields_List}
 use Rattle.signature.specs.Fnv.{offset, fnv_from, fnv}
 use Rattle.signature.specs.Signed.{home_words}
-use Rattle.signature.proofs.Hashing.{lists_none, lists_more}
+use Rattle.signature.proofs.Hashing.{lists_hashed}
 use Rattle.signature.proofs.take_homes.Goals as goal
-
-pub loop-i-init : goal.loop-i-init
-loop-i-init c = (search rules, lists_none offset (home_words c.args.foundation.now))
-
-pub loop-i-preserved : goal.loop-i-preserved
-loop-i-preserved c = (
-  search rules,
-  lists_more offset (home_words c.args.foundation.now) c.loop-i.i c.loop-i.invariant.1 c.take_home-h.ensures,
-)
 
 pub returns : goal.returns
 unfolding fnv
 returns c =
-    c.loop-i.invariant.1
-    ∙ ap (λ (n : ℕ). fnv_from offset (concat (listed n (home_words c.args.foundation.now))))
-    (let e : c.loop-i.i ≡ 4 = omega arith in e)
+    fold_from_yields_List _ (λ h i. fnv_from h (home_words c.args.foundation.now i)) offset c.fold.result c.fold.ensures.ran
+    (YieldsList-from_range 0 4 4 refl refl) (λ a x b q k. search (rules, tests))
+    ∙ lists_hashed offset (home_words c.args.foundation.now) 4

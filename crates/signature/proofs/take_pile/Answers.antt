@@ -1,24 +1,16 @@
--- What `take_pile` leaves to be shown: a hash that goes on card by card.
-use Rattle.std.proofs.Common.{◌≡◌, ℕ, ◌+◌, ◌*◌, refl, ap, ◌∙◌, arith, rules}
-use Rattle.base.specs.Words.{listed}
+-- What `take_pile` leaves to be shown: the fold over the pile's cards is the hash.
+use Rattle.std.proofs.Common.{◌+◌, ◌*◌, refl, ◌∙◌, rules, arith}
+use borrow.Author.Tests.{tests}
+use Rattle.std.proofs.lemmas.Iterator.{YieldsList-from_range}
+use Rattle.std.proofs.lemmas.Iterator.Consumers.{fold_from_yields_List}
 use Rattle.board.specs.Table.{pile}
-use Rattle.signature.specs.Fnv.{fnv_from}
-use Rattle.signature.proofs.Hashing.{hash_none, hash_more}
+use Rattle.signature.specs.Fnv.{fnv_step}
+use Rattle.signature.proofs.Hashing.{hash_listed}
 use Rattle.signature.proofs.take_pile.Goals as goal
-
-pub loop-v-init : goal.loop-v-init
-loop-v-init c = (search rules, hash_none c.args.h (λ k. (k + 1) * 16 + c.args.s))
-
-pub loop-v-preserved : goal.loop-v-preserved
-loop-v-preserved c = (
-  search rules,
-  hash_more c.args.h (λ k. (k + 1) * 16 + c.args.s)
-      c.loop-v.v c.loop-v.invariant.1 refl c.step-now.ensures,
-)
 
 pub returns : goal.returns
 unfolding pile
 returns c =
-    c.loop-v.invariant.1
-    ∙ ap (λ (n : ℕ). fnv_from c.args.h (listed n (λ k. (k + 1) * 16 + c.args.s)))
-    (let e : c.loop-v.v ≡ c.args.n = omega arith in e)
+    fold_from_yields_List _ (λ h v. fnv_step h ((v + 1) * 16 + c.args.s)) c.args.h c.fold.result c.fold.ensures.ran
+    (YieldsList-from_range 0 c.args.n c.args.n refl (omega arith)) (λ a x b q k. search (rules, tests))
+    ∙ hash_listed c.args.h (λ k. (k + 1) * 16 + c.args.s) c.args.n

@@ -6,4 +6,4 @@ use Rattle.solver.proofs.capacity_of.Goals as goal
 
 pub returns : goal.returns
 unfolding capacity_of
-returns c = c.lesser-3.ensures ∙ ap (min (c.args.nodes / 3)) (c.lesser-2.ensures ∙ ap (min c.args.heap) (c.lesser-entries.ensures ∙ ap (min (c.args.keys / 2)) c.lesser.ensures))
+returns c = c.min-3.ensures ∙ ap (min (c.args.nodes / 3)) (c.min-2.ensures ∙ ap (min c.args.heap) (c.min-entries.ensures ∙ ap (min (c.args.keys / 2)) c.min.ensures))

@@ -1,6 +1,7 @@
 -- What `judge_at` leaves to be shown: a won start, or the root, the run and the answer.
 use mathlib.Core.Path.{◌∙◌}
 use native.Mathlib.Omega.{arith}
+use Rattle.base.proofs.Clearing.{cleared}
 use Rattle.solver.proofs.Judging.{roomy_blank, gives_won, gives_run}
 use Rattle.solver.proofs.judge_at.Goals as goal
 
@@ -8,7 +9,7 @@ pub won_at-requires : goal.won_at-requires
 won_at-requires c = c.requires.sound.in_piles
 
 pub shape_of-costs-then-won_at : goal.shape_of-costs-then-won_at
-shape_of-costs-then-won_at c = c.clear_bytes.auto.s
+shape_of-costs-then-won_at c = c.clear.auto.s
 
 pub returns-then-won_at : goal.returns-then-won_at
 returns-then-won_at c =
@@ -16,7 +17,7 @@ returns-then-won_at c =
     gives_won start.b start.budget start.room.capacity start.partial c.won_at.ensures c.if-won_at.true _
 
 pub seed-c-requires : goal.seed-c-requires
-seed-c-requires c = record { sound = c.requires.sound; blank = roomy_blank c.requires.roomy c.clear_bytes.ensures }
+seed-c-requires c = record { sound = c.requires.sound; blank = roomy_blank c.requires.roomy (cleared _ _ c.clear.auto.s c.clear.ensures) }
 
 pub go-e-requires : goal.go-e-requires
 go-e-requires c =
@@ -37,7 +38,7 @@ shape_of-keys c = c.go-e.auto.keys ∙ c.seed-c.auto.keys
 
 pub shape_of-costs : goal.shape_of-costs
 shape_of-costs c =
-    c.go-e.auto.costs ∙ (c.seed-c.auto.costs ∙ c.clear_bytes.auto.s)
+    c.go-e.auto.costs ∙ (c.seed-c.auto.costs ∙ c.clear.auto.s)
 
 pub shape_of-list : goal.shape_of-list
 shape_of-list c = c.finish.auto.list

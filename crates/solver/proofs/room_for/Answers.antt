@@ -6,4 +6,4 @@ use Rattle.solver.proofs.room_for.Goals as goal
 
 pub returns : goal.returns
 unfolding entries_of
-returns c = ap (λ (n : ℕ). record { capacity = c.args.capacity; entries = n }) c.lesser.ensures
+returns c = ap (λ (n : ℕ). record { capacity = c.args.capacity; entries = n }) c.min.ensures

@@ -1,5 +1,5 @@
 -- What `add` leaves to be shown: refusal by refusal, then the sum.
-use Rattle.sheets.proofs.Answering.{good_words, says_first, says_second, says_settings, says_common, addable, says_sum}
+use Rattle.sheets.proofs.Answering.{good_words, says_first, says_second, says_settings, says_common, says_sum}
 use Rattle.totals.proofs.add.Goals as goal
 
 pub returns-then-not-examine : goal.returns-then-not-examine
@@ -19,12 +19,6 @@ none_common-requires c = (good_words _ _ c.examine.ensures c.if-not-examine.fals
 
 pub returns-then-not-none_common : goal.returns-then-not-none_common
 returns-then-not-none_common c = says_common c.args.into.now c.args.other.now _ c.examine.ensures c.if-not-examine.false _ c.examine-2.ensures c.if-not-examine-2.false _ c.settings_equal.ensures c.if-not-settings_equal.false _ c.none_common.ensures c.if-not-none_common.true
-
-pub add_figures-requires : goal.add_figures-requires
-add_figures-requires c = addable c.args.into.now c.args.other.now _ c.examine.ensures c.if-not-examine.false _ c.examine-2.ensures c.if-not-examine-2.false _ c.settings_equal.ensures c.if-not-settings_equal.false _ c.none_common.ensures c.if-not-none_common.false
-
-pub shape_of-into : goal.shape_of-into
-shape_of-into c = c.add_figures.auto.into
 
 pub returns : goal.returns
 returns c = says_sum c.args.into.now c.args.other.now _ c.examine.ensures c.if-not-examine.false _ c.examine-2.ensures c.if-not-examine-2.false _ c.settings_equal.ensures c.if-not-settings_equal.false _ c.none_common.ensures c.if-not-none_common.false _ c.add_figures.ensures

@@ -1,16 +1,14 @@
--- What `none_common` leaves to be shown: none of the numbers before i + 1 is in both.
-use Rattle.sheets.proofs.Totals.{common_one, common_none, common_end}
-use Rattle.sheets.proofs.Loops.{held_none}
+-- What `none_common` leaves to be shown: each of the deal numbers is tested.
+use Rattle.std.proofs.Common.{rules, ℕ, suc, ◌+◌, refl, ap, arith, Bool, not, ◌&&◌}
+use Rattle.sheets.specs.Good.{covered}
+use Rattle.sheets.specs.Adding.{apart}
+use Rattle.sheets.proofs.Ranges.{over_inclusive, all_tested}
 use Rattle.totals.proofs.none_common.Goals as goal
 
-pub loop-i-init : goal.loop-i-init
-loop-i-init c = held_none _ _
-
-pub returns-then-in_both : goal.returns-then-in_both
-returns-then-in_both c = common_one c.args.a.now c.args.b.now c.loop-i.invariant c.loop-i-test.true _ c.in_both.ensures c.if-in_both.true
-
-pub loop-i-preserved : goal.loop-i-preserved
-loop-i-preserved c = common_none c.args.a.now c.args.b.now c.loop-i.invariant c.loop-i-test.true _ c.in_both.ensures c.if-in_both.false
-
 pub returns : goal.returns
-returns c = common_end c.args.a.now c.args.b.now c.loop-i.invariant c.loop-i-test.false
+unfolding apart
+returns c =
+    let h = c.all.ensures.runs in
+    let p : ℕ → Bool = λ n. not (covered c.args.a.now n && covered c.args.b.now n) in
+    let each = over_inclusive 1 32001 32000 suc refl (λ k. omega arith) c.new.ensures.start (ap (λ (x : ℕ). x + 1) c.new.ensures.end) c.new.ensures.exhausted h.0 h.1 in
+    all_tested each _ p _ (λ x t q k. search rules) c.all.result h.2

@@ -1,41 +1,22 @@
 -- What `choose` leaves to be shown: one record more is looked at.
-use native.Mathlib.Omega.{arith}
 use Rattle.board.specs.Record.{shown, laid}
 use Rattle.moves.proofs.Writing.{adds_same}
-use Rattle.generate.proofs.Writing.{walk_start, walk_long, walk_room, walk_on, walk_end}
+use Rattle.generate.proofs.Writing.{walk_start, walk_room, walk_on, walk_end}
 use Rattle.candidates.specs.Inner.{meets}
-use Rattle.candidates.proofs.Listing.{part_ready, part_possible, part_fits, part_room, part_adds}
+use Rattle.candidates.proofs.Listing.{part_ready, part_possible, part_room, part_adds}
 use Rattle.candidates.proofs.Picking.{chosen_moves, choice_room}
 use Rattle.tried.proofs.choose.Goals as goal
 
 pub loop-k-init : goal.loop-k-init
 loop-k-init c = walk_start _ _ _ _
 
-pub overflow_mul-from : goal.overflow_mul-from
-overflow_mul-from c = omega (arith, c.requires.holds.records.fits, c.loop-k-test.true)
-
-pub overflow_add-to : goal.overflow_add-to
-overflow_add-to c = omega (arith, part_fits _ _ c.requires.holds c.loop-k-test.true)
-
-pub slice_bounds-keep-end : goal.slice_bounds-keep-end
-slice_bounds-keep-end c = part_fits _ _ c.requires.holds c.loop-k-test.true
-
 pub keep-made-requires : goal.keep-made-requires
 keep-made-requires c = let b = laid c.args.cells.now c.args.foundation.now c.args.counts.now c.args.tableau.now in
     record { ready = part_ready c.args.list.now c.loop-k.k c.requires.holds c.loop-k-test.true; before_value = c.requires.before_value; bytes_value = part_possible c.args.list.now c.loop-k.k c.requires.holds c.loop-k-test.true; bytes_in_bounds = part_room c.args.list.now c.loop-k.k (meets c.args.test (shown b)) _ _ (walk_room (choice_room _ _ _ _ _ c.requires.n_in_bounds) c.loop-k.invariant c.loop-k-test.true) }
 
-pub overflow_add-k : goal.overflow_add-k
-overflow_add-k c = omega (arith, c.loop-k-test.true, c.ranges.n)
-
-pub loop-k-smaller : goal.loop-k-smaller
-loop-k-smaller c = omega (arith, c.loop-k-test.true)
-
 pub loop-k-preserved : goal.loop-k-preserved
 loop-k-preserved c = let b = laid c.args.cells.now c.args.foundation.now c.args.counts.now c.args.tableau.now in
     walk_on (choice_room _ _ _ _ _ c.requires.n_in_bounds) c.loop-k.invariant c.loop-k-test.true (part_adds c.args.list.now c.loop-k.k (meets c.args.test (shown b)) c.keep-made.ensures)
-
-pub shape_of-out : goal.shape_of-out
-shape_of-out c = walk_long (choice_room _ _ _ _ _ c.requires.n_in_bounds) c.loop-k.invariant
 
 pub returns : goal.returns
 returns c = let b = laid c.args.cells.now c.args.foundation.now c.args.counts.now c.args.tableau.now in

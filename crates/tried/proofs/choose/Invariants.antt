@@ -1,6 +1,5 @@
 -- What `choose` leaves to be shown: one record more is looked at.
 use mathlib.Core.List.{[], ◌∷◌}
-use Prim.Native.Nat.{◌-◌}
 use Rattle.board.specs.Record.{shown, laid}
 use Rattle.generate.proofs.Writing.{Walked}
 use Rattle.safe.specs.Safe.{chosen}
@@ -9,6 +8,3 @@ use Rattle.tried.proofs.choose.Given as goal
 
 abbrev pub invariant-loop-k : goal.invariant-loop-k
 invariant-loop-k l = Walked (λ j. chosen (meets l.test (shown (laid l.cells l.foundation l.counts l.tableau))) (move_at l.list j ∷ [])) l.n l.initial.out l.at l.out l.made l.k
-
-abbrev pub decreases-loop-k : goal.decreases-loop-k
-decreases-loop-k l = l.n - l.k

@@ -1,18 +1,18 @@
--- What `home_moves_at` leaves to be shown: the columns' moves, then the cells'.
+-- What `home_moves_at` leaves to be shown: the columns' moves and the cells' are the moves home.
+use mathlib.Core.Path.{ap}
+use mathlib.Core.List.{List, ◌++◌, append-nil}
 use Rattle.board.specs.Record.{shown, laid}
+use Rattle.moves.specs.declared.Move.{Move}
+use Rattle.moves.proofs.Writing.{adds_same}
 use Rattle.generate.specs.Found.{found}
 use Rattle.generate.specs.declared.Way.TheVariants.{ColumnToHome, CellToHome}
-use Rattle.candidates.proofs.Adding.{first-room, next_room, adds_both, home-room, adds_home}
+use Rattle.candidates.proofs.Adding.{home-room, adds_home}
 use Rattle.tried.proofs.home_moves_at.Goals as goal
 
-pub find_at-made-requires : goal.find_at-made-requires
-find_at-made-requires c = let b = laid c.args.cells.now c.args.foundation.now c.args.counts.now c.args.tableau.now in
-    record { sound = c.requires.sound; way_in_bounds = first-room (found (shown b) ColumnToHome) (found (shown b) CellToHome) _ _ (home-room (shown b) _ c.requires.in_bounds) }
-
-pub find_at-requires : goal.find_at-requires
-find_at-requires c = let b = laid c.args.cells.now c.args.foundation.now c.args.counts.now c.args.tableau.now in
-    record { sound = c.requires.sound; way_in_bounds = next_room (found (shown b) ColumnToHome) (found (shown b) CellToHome) (home-room (shown b) _ c.requires.in_bounds) c.find_at-made.ensures }
+pub find_all-requires-clause-ways_in_bounds : goal.find_all-requires-clause-ways_in_bounds
+find_all-requires-clause-ways_in_bounds c = let b = laid c.args.cells.now c.args.foundation.now c.args.counts.now c.args.tableau.now in
+    rw (append-nil (found (shown b) CellToHome)) (home-room (shown b) _ c.requires.in_bounds)
 
 pub returns : goal.returns
 returns c = let b = laid c.args.cells.now c.args.foundation.now c.args.counts.now c.args.tableau.now in
-    adds_home (shown b) (adds_both (found (shown b) ColumnToHome) (found (shown b) CellToHome) (home-room (shown b) _ c.requires.in_bounds) c.find_at-made.ensures c.find_at.ensures)
+    adds_home (shown b) (adds_same (ap (λ (l : List Move). found (shown b) ColumnToHome ++ l) (append-nil (found (shown b) CellToHome))) c.find_all.ensures)

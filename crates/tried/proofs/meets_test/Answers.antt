@@ -1,11 +1,7 @@
 -- What `meets_test` leaves to be shown: what each test asks.
 use Rattle.board.specs.Record.{shown, laid}
-use Rattle.candidates.proofs.Worth.{meets-safe, meets_unsafe, meets_worth}
+use Rattle.candidates.proofs.Worth.{meets_unsafe, meets_worth}
 use Rattle.tried.proofs.meets_test.Goals as goal
-
-pub returns-in-Safe : goal.returns-in-Safe
-returns-in-Safe c = let b = laid c.args.cells.now c.args.foundation.now c.args.counts.now c.args.tableau.now in
-    meets-safe (shown b) c.args.m c.in-Safe.is c.is_safe.ensures
 
 pub returns-in-Unsafe : goal.returns-in-Unsafe
 returns-in-Unsafe c = let b = laid c.args.cells.now c.args.foundation.now c.args.counts.now c.args.tableau.now in

@@ -12,9 +12,6 @@ use Rattle.candidates.proofs.Adding.{first-room, next_room, adds_both, others, r
 use Rattle.board.proofs.Fair.{shows_fair}
 use Rattle.tried.proofs.tried_at.Goals as goal
 
-pub home_moves_at-n-requires : goal.home_moves_at-n-requires
-home_moves_at-n-requires c = record { sound = c.requires.sound; in_bounds = omega arith }
-
 pub choose-safe-requires : goal.choose-safe-requires
 choose-safe-requires c = let b = laid c.args.cells.now c.args.foundation.now c.args.counts.now c.args.tableau.now in
     record { holds = holds-written c.home_moves_at-n.ensures c.requires.sound (all-home (shown b) (shows_fair c.requires.sound)) (omega (arith, most_home (shown b))); before_value = c.requires.before_value; n_in_bounds = pick_room c.home_moves_at-n.ensures (is_safe (shown b)) _ _ (first-room (chosen (is_safe (shown b)) (home_moves (shown b))) (rest (shown b)) _ _ (tried-room (shown b) _ c.requires.tried_room_in_bounds)) }

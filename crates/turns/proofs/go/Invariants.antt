@@ -3,8 +3,5 @@ use Rattle.turns.proofs.Going.{Going}
 use Rattle.memory.specs.Memory.{lent}
 use Rattle.turns.proofs.go.Given as goal
 
-abbrev pub invariant-loop-counts : goal.invariant-loop-counts
-invariant-loop-counts l = Going l.root l.room l.budget (lent l.initial.nodes l.initial.heap l.initial.keys l.initial.costs) l.initial.counts (lent l.nodes l.heap l.keys l.costs) l.counts l.left
-
-abbrev pub decreases-loop-counts : goal.decreases-loop-counts
-decreases-loop-counts l = l.left
+abbrev pub invariant-loop : goal.invariant-loop
+invariant-loop l = Going l.root l.room l.budget (lent l.initial.nodes l.initial.heap l.initial.keys l.initial.costs) l.initial.counts (lent l.nodes l.heap l.keys l.costs) l.counts l.counter

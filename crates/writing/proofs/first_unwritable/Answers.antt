@@ -1,26 +1,32 @@
 -- What `first_unwritable` leaves to be shown: so far each can be written.
+use mathlib.Core.Path.{ap, ◌∙◌}
 use native.Mathlib.Omega.{arith}
-use Rattle.writing.proofs.Looking.{looked_start, five_there, looked_turn, looked_stop, looked_end}
-use borrow.Author.Rules.{rules}
+use Rattle.std.specs.Iterator.Adapters.{enumerate_source, enumerate_count}
+use Rattle.std.specs.Slice.Iter.{chunks_exact_rest, chunks_exact_size}
+use Rattle.writing.proofs.Looking.{looked_start, looked_turn, looked_stop, looked_end}
 use Rattle.writing.proofs.first_unwritable.Goals as goal
 
-pub loop-at-init : goal.loop-at-init
-loop-at-init c = looked_start c.args.bytes.now c.requires
+pub loop-place-init : goal.loop-place-init
+loop-place-init c =
+    let gives = c.into_iter-place-iterator.ensures.into_iter_gives in
+    let source = ap (λ s. enumerate_source s) gives ∙ c.enumerate-place-items.ensures.source in
+    record {
+      five = ap (λ s. chunks_exact_size s) source ∙ c.chunks_exact.ensures.size;
+      looked = looked_start c.args.bytes.now (ap (λ s. chunks_exact_rest s) source ∙ c.chunks_exact.ensures.rest) (ap (λ s. enumerate_count s) gives ∙ c.enumerate-place-items.ensures.count);
+    }
 
 pub returns-then-not-is_writable : goal.returns-then-not-is_writable
-returns-then-not-is_writable c = looked_stop c.args.bytes.now c.requires c.loop-at.invariant c.is_writable.ensures c.loop-at-test.true c.if-not-is_writable.true
+returns-then-not-is_writable c =
+    let turn = c.in-Some.ensures.steps in
+    looked_stop c.loop-place.invariant.looked _ _ turn.0.1.0 (turn.0.1.1 ∙ c.loop-place.invariant.five) c.is_writable.ensures c.if-not-is_writable.true turn.1
 
-pub overflow_add-moves : goal.overflow_add-moves
-overflow_add-moves c = let h = five_there c.args.bytes.now c.requires c.loop-at.invariant c.loop-at-test.true in let p = c.loop-at.invariant.place in search rules
-
-pub overflow_add-at : goal.overflow_add-at
-overflow_add-at c = let h = five_there c.args.bytes.now c.requires c.loop-at.invariant c.loop-at-test.true in search rules
-
-pub loop-at-smaller : goal.loop-at-smaller
-loop-at-smaller c = omega (arith, c.loop-at-test.true)
-
-pub loop-at-preserved : goal.loop-at-preserved
-loop-at-preserved c = looked_turn c.args.bytes.now c.requires c.loop-at.invariant c.is_writable.ensures c.loop-at-test.true c.if-not-is_writable.false
+pub loop-place-preserved : goal.loop-place-preserved
+loop-place-preserved c =
+    let turn = c.in-Some.ensures.steps in
+    record {
+      five = turn.0.0 ∙ c.loop-place.invariant.five;
+      looked = looked_turn c.loop-place.invariant.looked _ _ turn.0.1.0 (turn.0.1.1 ∙ c.loop-place.invariant.five) c.is_writable.ensures c.if-not-is_writable.false turn.2;
+    }
 
 pub returns : goal.returns
-returns c = looked_end c.args.bytes.now c.requires c.loop-at.invariant c.loop-at-test.false
+returns c = looked_end c.loop-place.invariant.looked (let h = c.in-None.ensures.steps in let s = c.loop-place.invariant.five in omega arith)

@@ -1,11 +1,13 @@
 -- What `first_unwritable` leaves to be shown: so far each can be written.
-use Prim.Native.Nat.{◌-◌}
-use lib.ListN.{length}
+use mathlib.Core.Path.{◌≡◌}
+use Rattle.std.specs.Iterator.Adapters.{enumerate_source, enumerate_count}
+use Rattle.std.specs.Slice.Iter.{chunks_exact_rest, chunks_exact_size}
 use Rattle.writing.proofs.Looking.{Looked}
 use Rattle.writing.proofs.first_unwritable.Given as goal
 
-abbrev pub invariant-loop-at : goal.invariant-loop-at
-invariant-loop-at l = Looked l.bytes l.moves l.at
-
-abbrev pub decreases-loop-at : goal.decreases-loop-at
-decreases-loop-at l = length l.bytes - l.at
+abbrev pub invariant-loop-place : goal.invariant-loop-place
+invariant-loop-place l =
+    record {
+      five : chunks_exact_size (enumerate_source l.place-iterator) ≡ 5;
+      looked : Looked l.bytes (chunks_exact_rest (enumerate_source l.place-iterator)) (enumerate_count l.place-iterator);
+    }

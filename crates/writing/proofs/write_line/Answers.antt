@@ -5,17 +5,15 @@ use Rattle.board.specs.declared.Refusal.TheVariants.{WrongList}
 use Rattle.board.proofs.Soundness.{sound}
 use Rattle.questions.proofs.Asking.{verdict_fine}
 use Rattle.writing.proofs.Telling.{tells_no, bad_board, no_list_lem}
+use Rattle.std.proofs.lemmas.Result.{err_from_is_err_and}
 use borrow.Author.Rules.{rules}
 use Rattle.writing.proofs.write_line.Goals as goal
 
-pub returns-in-Refused : goal.returns-in-Refused
-returns-in-Refused c = tells_no {why = c.in-Refused.why} (bad_board c.args.b c.args.bytes.now (length c.args.text.now) c.inspect.ensures c.in-Refused.is)
+pub returns-in_err-inspect : goal.returns-in_err-inspect
+returns-in_err-inspect c = let p = err_from_is_err_and c.from_residual.result c.from_residual.ensures.1 in rw (p.1, p.2) (tells_no (bad_board c.args.b c.args.bytes.now (length c.args.text.now) c.inspect.ensures c.in_err-inspect.was))
 
-pub write_line_at-requires : goal.write_line_at-requires
-write_line_at-requires c = record { sound = sound c.args.b (record { four = search rules; piles = search rules; eight = search rules; full = search rules }) (verdict_fine c.inspect.ensures c.in_default.is); bytes_value = sym c.is_line.ensures ∙ c.if-is_line.true }
+pub returns-then-not-is_line : goal.returns-then-not-is_line
+returns-then-not-is_line c = rw c.into.ensures (tells_no {why = WrongList} (no_list_lem c.args.b c.args.bytes.now (length c.args.text.now) c.inspect.ensures c.in_ok-inspect.was (sym c.is_line.ensures ∙ c.if-not-is_line.true)))
 
-pub returns-then-is_line : goal.returns-then-is_line
-returns-then-is_line c = c.write_line_at.ensures
-
-pub returns : goal.returns
-returns c = tells_no {why = WrongList} (no_list_lem c.args.b c.args.bytes.now (length c.args.text.now) c.inspect.ensures c.in_default.is (sym c.is_line.ensures ∙ c.if-is_line.false))
+pub write_line_at-requires-clause-sound : goal.write_line_at-requires-clause-sound
+write_line_at-requires-clause-sound c = sound c.args.b (record { four = search rules; piles = search rules; eight = search rules; full = search rules }) (verdict_fine c.inspect.ensures c.in_ok-inspect.was)

@@ -5,23 +5,20 @@ use Rattle.replay.proofs.Replaying.{line_five}
 use Rattle.writing.proofs.Telling.{tells_no, tells_at, tells_text, bad_move_lem, no_sign, no_room_lem, all_told, all_ready}
 use Rattle.writing.proofs.write_line_at.Goals as goal
 
-pub play_through-stopped-requires : goal.play_through-stopped-requires
-play_through-stopped-requires c = record { sound = c.requires.sound; bytes_len = line_five c.args.bytes.now c.requires.bytes_value }
+pub play_through-stopped-requires-clause-bytes_len : goal.play_through-stopped-requires-clause-bytes_len
+play_through-stopped-requires-clause-bytes_len c = line_five c.args.bytes.now c.requires.bytes_value
 
-pub returns-in-Refused : goal.returns-in-Refused
-returns-in-Refused c = tells_at {why = c.in-Refused.why} (bad_move_lem c.args.b c.args.bytes.now (length c.args.text.now) c.requires.sound c.requires.bytes_value c.play_through-stopped.ensures c.in-Refused.is)
+pub returns-in-Err : goal.returns-in-Err
+returns-in-Err c = tells_at {why = c.in-Err.why} (bad_move_lem c.args.b c.args.bytes.now (length c.args.text.now) c.requires.sound c.requires.bytes_value c.play_through-stopped.ensures c.in-Err.is)
 
-pub first_unwritable-place-requires : goal.first_unwritable-place-requires
-first_unwritable-place-requires c = line_five c.args.bytes.now c.requires.bytes_value
-
-pub returns-then-place-all : goal.returns-then-place-all
-returns-then-place-all c = tells_at {why = NotWritable} (no_sign c.args.b c.args.bytes.now (length c.args.text.now) c.requires.sound c.requires.bytes_value c.play_through-stopped.ensures c.in_default.is c.first_unwritable-place.ensures c.if-place-all.true)
+pub returns-in-Some : goal.returns-in-Some
+returns-in-Some c = tells_at {why = NotWritable} (no_sign c.args.b c.args.bytes.now (length c.args.text.now) c.requires.sound c.requires.bytes_value c.play_through-stopped.ensures c.in_default.is c.in-Some.ensures)
 
 pub returns-then-text-lt-TEXT_ROOM : goal.returns-then-text-lt-TEXT_ROOM
-returns-then-text-lt-TEXT_ROOM c = tells_no {why = LittleRoom} (no_room_lem c.args.b c.args.bytes.now (length c.args.text.now) c.requires.sound c.requires.bytes_value c.play_through-stopped.ensures c.in_default.is c.first_unwritable-place.ensures c.if-place-all.false c.if-text-lt-TEXT_ROOM.true)
+returns-then-text-lt-TEXT_ROOM c = rw c.into.ensures (tells_no {why = LittleRoom} (no_room_lem c.args.b c.args.bytes.now (length c.args.text.now) c.requires.sound c.requires.bytes_value c.play_through-stopped.ensures c.in_default.is c.in_default-first_unwritable.ensures c.if-text-lt-TEXT_ROOM.true))
 
-pub write_all-end-requires : goal.write_all-end-requires
-write_all-end-requires c = all_ready c.args.b c.args.bytes.now (length c.args.text.now) c.requires.sound c.requires.bytes_value c.play_through-stopped.ensures c.in_default.is c.first_unwritable-place.ensures c.if-place-all.false c.if-text-lt-TEXT_ROOM.false
+pub write_all-requires : goal.write_all-requires
+write_all-requires c = all_ready c.args.b c.args.bytes.now (length c.args.text.now) c.requires.sound c.requires.bytes_value c.play_through-stopped.ensures c.in_default.is c.in_default-first_unwritable.ensures c.if-text-lt-TEXT_ROOM.false
 
 pub returns : goal.returns
-returns c = tells_text (all_told c.args.b c.args.bytes.now (length c.args.text.now) c.requires.sound c.requires.bytes_value c.play_through-stopped.ensures c.in_default.is c.first_unwritable-place.ensures c.if-place-all.false c.if-text-lt-TEXT_ROOM.false) c.write_all-end.ensures
+returns c = tells_text (all_told c.args.b c.args.bytes.now (length c.args.text.now) c.requires.sound c.requires.bytes_value c.play_through-stopped.ensures c.in_default.is c.in_default-first_unwritable.ensures c.if-text-lt-TEXT_ROOM.false) c.write_all.ensures

@@ -1,35 +1,30 @@
 -- What `write_moves` leaves to be shown: what is written and what is left are the whole text.
+use mathlib.Core.Path.{ap, ◌∙◌}
 use native.Mathlib.Omega.{arith}
-use Rattle.writing.proofs.Writing.{written_start, five_more, written_next, written_turn, written_long, written_end}
-use borrow.Author.Rules.{rules}
+use Rattle.std.specs.Slice.Iter.{chunks_exact_rest, chunks_exact_size}
+use Rattle.writing.proofs.Writing.{written_start, written_next, written_turn, written_end}
 use Rattle.writing.proofs.write_moves.Goals as goal
 
-pub loop-at-init : goal.loop-at-init
-loop-at-init c = written_start c.requires
-
-pub overflow_add-end : goal.overflow_add-end
-overflow_add-end c = let h = five_more c.requires c.loop-at.invariant c.loop-at-test.true in search rules
-
-pub slice_bounds-record-count : goal.slice_bounds-record-count
-slice_bounds-record-count c = omega arith
-
-pub slice_bounds-record-start : goal.slice_bounds-record-start
-slice_bounds-record-start c = let h = five_more c.requires c.loop-at.invariant c.loop-at-test.true in search rules
-
-pub slice_bounds-record-end : goal.slice_bounds-record-end
-slice_bounds-record-end c = let h = five_more c.requires c.loop-at.invariant c.loop-at-test.true in search rules
+pub loop-record-init : goal.loop-record-init
+loop-record-init c =
+    let gives = c.into_iter-record-iterator.ensures.into_iter_gives in
+    record {
+      five = ap (λ s. chunks_exact_size s) gives ∙ c.chunks_exact-record-items.ensures.size;
+      written = written_start c.requires (ap (λ s. chunks_exact_rest s) gives ∙ c.chunks_exact-record-items.ensures.rest);
+    }
 
 pub write_record-to-requires : goal.write_record-to-requires
-write_record-to-requires c = written_next c.requires c.loop-at.invariant c.loop-at-test.true
+write_record-to-requires c =
+    let turn = c.in-Some.ensures.steps in
+    written_next c.requires c.loop-record.invariant.written _ _ turn.1.0 (turn.1.1 ∙ c.loop-record.invariant.five)
 
-pub loop-at-smaller : goal.loop-at-smaller
-loop-at-smaller c = omega (arith, c.loop-at-test.true)
-
-pub loop-at-preserved : goal.loop-at-preserved
-loop-at-preserved c = written_turn c.requires c.loop-at.invariant c.loop-at-test.true c.write_record-to.ensures
-
-pub shape_of-text : goal.shape_of-text
-shape_of-text c = written_long c.requires c.loop-at.invariant
+pub loop-record-preserved : goal.loop-record-preserved
+loop-record-preserved c =
+    let turn = c.in-Some.ensures.steps in
+    record {
+      five = turn.0 ∙ c.loop-record.invariant.five;
+      written = written_turn c.requires c.loop-record.invariant.written _ _ turn.1.0 (turn.1.1 ∙ c.loop-record.invariant.five) c.write_record-to.ensures;
+    }
 
 pub returns : goal.returns
-returns c = written_end c.requires c.loop-at.invariant c.loop-at-test.false
+returns c = written_end c.requires c.loop-record.invariant.written (let h = c.in-None.ensures.steps in let s = c.loop-record.invariant.five in omega arith)

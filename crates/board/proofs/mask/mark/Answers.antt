@@ -1,4 +1,5 @@
 -- What `mark` leaves to be shown: the shifts stay within a word, and the bit tested is the card's.
+use Rattle.std.specs.Prelude.{Some, None}
 use mathlib.Core.Path.{◌≡◌, sym, ap, ◌∙◌, subst}
 use mathlib.Core.Bool.{true}
 use mathlib.Core.List.{◌∷◌, []}
@@ -9,7 +10,6 @@ use Rattle.card.specs.Card.{is_card}
 use Rattle.card.specs.Pack.{place_of}
 use Rattle.card.proofs.Codes.{place_below_lem}
 use Rattle.board.specs.Inner.{bit_at, Marks}
-use Rattle.board.specs.declared.Seen.TheVariants.{Cards, Twice}
 use Rattle.board.proofs.Bits.{bit_word}
 use Rattle.board.proofs.Marks.{mark_again, mark_new}
 use Rattle.board.proofs.mask.mark.Goals as goal
@@ -21,14 +21,14 @@ module _ (seen code k : ℕ) (card : is_card code ≡ true) (e : k ≡ place_of 
   word : (1 * 2 ^ k) % 2 ^ 64 ≡ 2 ^ k
   word = bit_word k (let b = below in omega arith)
 
-  again : seen / 2 ^ k % 2 ≡ 1 → Marks seen (code ∷ []) Twice
+  again : seen / 2 ^ k % 2 ≡ 1 → Marks seen (code ∷ []) None
   unfolding bit_at
   again h = mark_again seen code card (subst (λ (j : ℕ). seen / 2 ^ j % 2 ≡ 1) e h)
 
-  new : seen < 2 ^ 52 → (seen / 2 ^ k % 2 ≡ 1 → ⊥) → Marks seen (code ∷ []) (Cards (seen + (1 * 2 ^ k) % 2 ^ 64))
+  new : seen < 2 ^ 52 → (seen / 2 ^ k % 2 ≡ 1 → ⊥) → Marks seen (code ∷ []) (Some (seen + (1 * 2 ^ k) % 2 ^ 64))
   unfolding bit_at
   new b h =
-      subst (λ (m : ℕ). Marks seen (code ∷ []) (Cards (seen + m))) (ap (λ (j : ℕ). 2 ^ j) (sym e) ∙ sym word)
+      subst (λ (m : ℕ). Marks seen (code ∷ []) (Some (seen + m))) (ap (λ (j : ℕ). 2 ^ j) (sym e) ∙ sym word)
       (mark_new seen code card b (λ q. h (subst (λ (j : ℕ). seen / 2 ^ j % 2 ≡ 1) (sym e) q)))
 
   sum_below : seen < 2 ^ 52 → seen + (1 * 2 ^ k) % 2 ^ 64 < 2 ^ 64

@@ -6,18 +6,15 @@ use lib.ListN.{length, get_or}
 use Rattle.base.specs.Words.{listed, concat}
 use Rattle.base.proofs.Words.{singles}
 use Rattle.board.specs.Inner.{Marks}
-use Rattle.board.specs.declared.Seen.{Seen}
+use Rattle.std.specs.Prelude.{Option}
 use Rattle.board.proofs.Marks.{Passed}
 use Rattle.board.proofs.mask.mark_all.Given as goal
 
 abbrev each : List ℕ → ℕ → List ℕ
 each s k = get_or s k 0 ∷ []
 
-whole : {seen : ℕ} (s : List ℕ) {r : Seen} → Marks seen (concat (listed (length s) (each s))) r → Marks seen s r
+whole : {seen : ℕ} (s : List ℕ) {r : Option ℕ} → Marks seen (concat (listed (length s) (each s))) r → Marks seen s r
 whole {seen} s {r} m = subst (λ (l : List ℕ). Marks seen l r) (singles s) m
 
-abbrev pub invariant-loop-i : goal.invariant-loop-i
-invariant-loop-i l = Passed l.seen (each l.s) (length l.s) l.cards l.i
-
-abbrev pub decreases-loop-i : goal.decreases-loop-i
-decreases-loop-i l = length l.s - l.i
+abbrev pub invariant-loop-code : goal.invariant-loop-code
+invariant-loop-code l = Passed l.seen (each l.s) (length l.s) l.cards l.code-index

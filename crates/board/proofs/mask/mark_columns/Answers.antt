@@ -27,32 +27,31 @@ pub bounds-counts-i : goal.bounds-counts-i
 bounds-counts-i c = omega (arith, c.requires.parts.counts8)
 
 pub overflow_add-end : goal.overflow_add-end
-overflow_add-end c = omega (arith, c.wide.ensures, c.requires.parts.within c.loop-i.i c.loop-i-test.true)
+overflow_add-end c = omega (arith, c.from.ensures, c.requires.parts.within c.loop-i.i c.loop-i-test.true)
 
 pub slice_bounds-mark_all-end : goal.slice_bounds-mark_all-end
-slice_bounds-mark_all-end c = omega (arith, c.wide.ensures, c.requires.parts.within c.loop-i.i c.loop-i-test.true)
+slice_bounds-mark_all-end c = omega (arith, c.from.ensures, c.requires.parts.within c.loop-i.i c.loop-i-test.true)
 
 pub mark_all-requires : goal.mark_all-requires
 mark_all-requires c =
     let a = c.args in record {
       seen_bound = c.loop-i.invariant.marks.below;
-      s_value = subst (λ (l : List ℕ). all is_card l ≡ true) (sym (part_is a.starts.now a.counts.now a.codes.now c.loop-i.i c.wide.result c.wide.ensures))
+      s_value = subst (λ (l : List ℕ). all is_card l ≡ true) (sym (part_is a.starts.now a.counts.now a.codes.now c.loop-i.i c.from.result c.from.ensures))
           (part-cards (part_at a.starts.now a.counts.now a.codes.now) c.loop-i.i c.loop-i-test.true c.requires.codes_value);
     }
 
-pub returns-in_default : goal.returns-in_default
-returns-in_default c =
-    let a = c.args in
+pub returns-in_err-cards : goal.returns-in_err-cards
+returns-in_err-cards c = rw c.from_residual.ensures (let a = c.args in
     pass_stop _ _ c.loop-i.invariant c.loop-i-test.true
-    (subst (λ (l : List ℕ). Marks c.loop-i.cards l c.mark_all.result) (part_is a.starts.now a.counts.now a.codes.now c.loop-i.i c.wide.result c.wide.ensures) c.mark_all.ensures)
-    c.in_default.is
+    (subst (λ (l : List ℕ). Marks c.loop-i.cards l c.mark_all.result) (part_is a.starts.now a.counts.now a.codes.now c.loop-i.i c.from.result c.from.ensures) c.mark_all.ensures)
+    c.in_err-cards.was)
 
 pub loop-i-preserved : goal.loop-i-preserved
 loop-i-preserved c =
     let a = c.args in
     pass_more _ _ c.loop-i.invariant c.loop-i-test.true
-    (subst (λ (l : List ℕ). Marks c.loop-i.cards l c.mark_all.result) (part_is a.starts.now a.counts.now a.codes.now c.loop-i.i c.wide.result c.wide.ensures) c.mark_all.ensures)
-    c.in-Cards.is
+    (subst (λ (l : List ℕ). Marks c.loop-i.cards l c.mark_all.result) (part_is a.starts.now a.counts.now a.codes.now c.loop-i.i c.from.result c.from.ensures) c.mark_all.ensures)
+    c.in_ok-cards.was
 
 pub returns : goal.returns
 returns c = pass_end _ _ c.loop-i.invariant c.loop-i-test.false

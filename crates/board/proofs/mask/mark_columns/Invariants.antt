@@ -6,6 +6,3 @@ use Rattle.board.proofs.mask.mark_columns.Given as goal
 
 abbrev pub invariant-loop-i : goal.invariant-loop-i
 invariant-loop-i l = Passed l.seen (part_at l.starts l.counts l.codes) 8 l.cards l.i
-
-abbrev pub decreases-loop-i : goal.decreases-loop-i
-decreases-loop-i l = 8 - l.i

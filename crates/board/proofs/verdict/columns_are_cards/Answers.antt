@@ -26,20 +26,20 @@ pub bounds-counts-i : goal.bounds-counts-i
 bounds-counts-i c = omega (arith, c.requires.counts8)
 
 pub overflow_add-end : goal.overflow_add-end
-overflow_add-end c = omega (arith, c.wide.ensures, c.requires.within c.loop-i.i c.loop-i-test.true)
+overflow_add-end c = omega (arith, c.from.ensures, c.requires.within c.loop-i.i c.loop-i-test.true)
 
-pub slice_bounds-all_of-end : goal.slice_bounds-all_of-end
-slice_bounds-all_of-end c = omega (arith, c.wide.ensures, c.requires.within c.loop-i.i c.loop-i-test.true)
+pub slice_bounds-are_cards-end : goal.slice_bounds-are_cards-end
+slice_bounds-are_cards-end c = omega (arith, c.from.ensures, c.requires.within c.loop-i.i c.loop-i-test.true)
 
-pub returns-then-not-all_of : goal.returns-then-not-all_of
-returns-then-not-all_of c =
+pub returns-then-not-are_cards : goal.returns-then-not-are_cards
+returns-then-not-are_cards c =
     let f = here c.args.starts.now c.args.counts.now c.args.codes.now in
     sym (all-concat is_card (part_at c.args.starts.now c.args.counts.now c.args.codes.now) 8
-    ∙ every_fails f 8 c.loop-i.i c.loop-i-test.true (sym (c.all_of.ensures ∙ ap (all is_card) (part_is c.args.starts.now c.args.counts.now c.args.codes.now c.loop-i.i c.wide.result c.wide.ensures)) ∙ c.if-not-all_of.true))
+    ∙ every_fails f 8 c.loop-i.i c.loop-i-test.true (sym (c.are_cards.ensures ∙ ap (all is_card) (part_is c.args.starts.now c.args.counts.now c.args.codes.now c.loop-i.i c.from.result c.from.ensures)) ∙ c.if-not-are_cards.true))
 
 pub loop-i-preserved : goal.loop-i-preserved
 loop-i-preserved c =
-    (search rules, every_more (here c.args.starts.now c.args.counts.now c.args.codes.now) c.loop-i.i c.loop-i.invariant.1 (sym (c.all_of.ensures ∙ ap (all is_card) (part_is c.args.starts.now c.args.counts.now c.args.codes.now c.loop-i.i c.wide.result c.wide.ensures)) ∙ c.if-not-all_of.false))
+    (search rules, every_more (here c.args.starts.now c.args.counts.now c.args.codes.now) c.loop-i.i c.loop-i.invariant.1 (sym (c.are_cards.ensures ∙ ap (all is_card) (part_is c.args.starts.now c.args.counts.now c.args.codes.now c.loop-i.i c.from.result c.from.ensures)) ∙ c.if-not-are_cards.false))
 
 pub returns : goal.returns
 returns c =

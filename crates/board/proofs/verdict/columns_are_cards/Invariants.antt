@@ -13,6 +13,3 @@ here starts counts codes k = all is_card (part_at starts counts codes k)
 
 abbrev pub invariant-loop-i : goal.invariant-loop-i
 invariant-loop-i l = (l.i ≤ 8) × (every l.i (here l.starts l.counts l.codes) ≡ true)
-
-abbrev pub decreases-loop-i : goal.decreases-loop-i
-decreases-loop-i l = 8 - l.i

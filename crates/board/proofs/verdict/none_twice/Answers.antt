@@ -1,16 +1,20 @@
 -- What `none_twice` leaves to be shown: a repeat was found, or none was.
-use mathlib.Core.Path.{sym}
-use mathlib.Core.List.{[]}
+use mathlib.Core.Path.{◌≡◌, sym, ◌∙◌}
+use mathlib.Core.List.{List, []}
+use Prim.Native.Nat.{ℕ}
 use lib.Dec.{lit<}
-use Rattle.board.proofs.Marks.{marks_as, holds_none, holds_once}
+use Rattle.std.specs.Prelude.{Option, Some, None, is_some}
+use Rattle.board.specs.Inner.{Marks}
+use Rattle.board.specs.Verdict.{none_twice}
+use Rattle.board.proofs.Marks.{holds_none, holds_once}
 use Rattle.board.proofs.verdict.none_twice.Goals as goal
+
+shown : {s : List ℕ} (r : Option ℕ) → Marks 0 s r → is_some r ≡ none_twice s
+shown (Some seen) m = sym (holds_once (m.knows [] holds_none))
+shown None m = sym (m.knows [] holds_none)
 
 pub mark_all-requires : goal.mark_all-requires
 mark_all-requires c = record { seen_bound = lit< tt; s_value = c.requires }
 
-pub returns-in-Cards : goal.returns-in-Cards
-returns-in-Cards c =
-    sym (holds_once ((marks_as c.mark_all.ensures c.in-Cards.is).knows [] holds_none))
-
-pub returns-in-Twice : goal.returns-in-Twice
-returns-in-Twice c = sym ((marks_as c.mark_all.ensures c.in-Twice.is).knows [] holds_none)
+pub returns : goal.returns
+returns c = c.is_some.ensures ∙ shown c.mark_all.result c.mark_all.ensures

@@ -21,23 +21,23 @@ pub bounds-counts-i : goal.bounds-counts-i
 bounds-counts-i c = omega (arith, c.requires.counts_len)
 
 pub overflow_add-start : goal.overflow_add-start
-overflow_add-start c = omega (arith, c.wide.ensures, at_most_lem room c.args.counts.now c.requires.counts_value c.loop-i.i (omega (arith, c.requires.counts_len)))
+overflow_add-start c = omega (arith, c.from.ensures, at_most_lem room c.args.counts.now c.requires.counts_value c.loop-i.i (omega (arith, c.requires.counts_len)))
 
-pub slice_bounds-all_of-count : goal.slice_bounds-all_of-count
-slice_bounds-all_of-count c = omega (arith, c.wide.ensures, at_most_lem room c.args.counts.now c.requires.counts_value c.loop-i.i (omega (arith, c.requires.counts_len)))
+pub slice_bounds-within-count : goal.slice_bounds-within-count
+slice_bounds-within-count c = omega (arith, c.from.ensures, at_most_lem room c.args.counts.now c.requires.counts_value c.loop-i.i (omega (arith, c.requires.counts_len)))
 
-pub slice_bounds-all_of-start : goal.slice_bounds-all_of-start
-slice_bounds-all_of-start c = omega (arith, c.wide.ensures, at_most_lem room c.args.counts.now c.requires.counts_value c.loop-i.i (omega (arith, c.requires.counts_len)))
+pub slice_bounds-within-start : goal.slice_bounds-within-start
+slice_bounds-within-start c = omega (arith, c.from.ensures, at_most_lem room c.args.counts.now c.requires.counts_value c.loop-i.i (omega (arith, c.requires.counts_len)))
 
-pub slice_bounds-all_of-end : goal.slice_bounds-all_of-end
-slice_bounds-all_of-end c = omega (arith, c.requires.tableau_len)
+pub slice_bounds-within-end : goal.slice_bounds-within-end
+slice_bounds-within-end c = omega (arith, c.requires.tableau_len)
 
-pub returns-then-not-all_of : goal.returns-then-not-all_of
-returns-then-not-all_of c = sym (every_fails (here c.args.counts.now c.args.tableau.now) 8 c.loop-i.i c.loop-i-test.true (sym (c.all_of.ensures ∙ ap (all is_zero) (spare_is c.args.counts.now c.args.tableau.now c.loop-i.i c.wide.result c.wide.ensures)) ∙ c.if-not-all_of.true))
+pub returns-then-not-within : goal.returns-then-not-within
+returns-then-not-within c = sym (every_fails (here c.args.counts.now c.args.tableau.now) 8 c.loop-i.i c.loop-i-test.true (sym (c.within.ensures ∙ ap (all is_zero) (spare_is c.args.counts.now c.args.tableau.now c.loop-i.i c.from.result c.from.ensures)) ∙ c.if-not-within.true))
 
 pub loop-i-preserved : goal.loop-i-preserved
 loop-i-preserved c =
-    (search rules, every_more (here c.args.counts.now c.args.tableau.now) c.loop-i.i c.loop-i.invariant.1 (sym (c.all_of.ensures ∙ ap (all is_zero) (spare_is c.args.counts.now c.args.tableau.now c.loop-i.i c.wide.result c.wide.ensures)) ∙ c.if-not-all_of.false))
+    (search rules, every_more (here c.args.counts.now c.args.tableau.now) c.loop-i.i c.loop-i.invariant.1 (sym (c.within.ensures ∙ ap (all is_zero) (spare_is c.args.counts.now c.args.tableau.now c.loop-i.i c.from.result c.from.ensures)) ∙ c.if-not-within.false))
 
 pub returns : goal.returns
 returns c = sym (every_end (here c.args.counts.now c.args.tableau.now) 8 c.loop-i.i c.loop-i.invariant.1 c.loop-i-test.false)

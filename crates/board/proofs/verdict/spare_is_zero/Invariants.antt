@@ -12,6 +12,3 @@ here counts tableau k = all is_zero (spare_at counts tableau k)
 
 abbrev pub invariant-loop-i : goal.invariant-loop-i
 invariant-loop-i l = (l.i ≤ 8) × (every l.i (here l.counts l.tableau) ≡ true)
-
-abbrev pub decreases-loop-i : goal.decreases-loop-i
-decreases-loop-i l = 8 - l.i

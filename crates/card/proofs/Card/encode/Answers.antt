@@ -1,24 +1,15 @@
 -- What `encode` leaves to be shown: the value is judged first.
-use lib.Dec.{leb}
-use borrow.Author.Tests.{lt-leb}
-use Rattle.card.specs.Card.{code_asked, is_value}
-use Rattle.base.proofs.Words.{second_fails}
-use Rattle.card.proofs.Codes.{is_value_lem}
+use Rattle.card.specs.Card.{code_asked}
+use mathlib.Core.Path.{sym, ◌∙◌}
 use Rattle.card.proofs.Card.encode.Goals as goal
 
-pub returns-then-value-lt1 : goal.returns-then-value-lt1
-unfolding code_asked is_value
-returns-then-value-lt1 c = rw (lt-leb _ _ c.if-value-lt1.true)
-
-pub returns-then-value-gt13 : goal.returns-then-value-gt13
-unfolding code_asked is_value
-returns-then-value-gt13 c =
-    rw (second_fails (leb 1 c.args.self.value) (leb c.args.self.value 13) (lt-leb c.args.self.value 13 c.if-value-gt13.true))
-
 pub code_of-requires : goal.code_of-requires
-code_of-requires c = is_value_lem c.args.self.value c.if-value-lt1.false c.if-value-gt13.false
+code_of-requires c = sym c.is_value.ensures ∙ c.if-is_value.true
 
-pub returns : goal.returns
+pub returns-then-is_value : goal.returns-then-is_value
 unfolding code_asked
-returns c =
-    rw (is_value_lem c.args.self.value c.if-value-lt1.false c.if-value-gt13.false, c.code_of.ensures)
+returns-then-is_value c = rw (← c.is_value.ensures, c.if-is_value.true, c.code_of.ensures)
+
+pub returns-else-is_value : goal.returns-else-is_value
+unfolding code_asked
+returns-else-is_value c = rw (← c.is_value.ensures, c.if-is_value.false)

@@ -1,14 +1,9 @@
--- What `lay_out` leaves to be shown: the array is filled place by place.
-use mathlib.Core.Path.{refl}
-use Rattle.base.proofs.Filling.{filled_none, filled_more, filled_end}
+-- What `lay_out` leaves to be shown: each place has its code.
+use borrow.Author.Rules.{rules}
+use borrow.Author.Tests.{tests}
+use Rattle.base.proofs.Lists.{from_fn_listed}
 use Rattle.intake.specs.Inside.{deck_code}
 use Rattle.intake.proofs.deal.lay_out.Goals as goal
 
-pub loop-p-init : goal.loop-p-init
-loop-p-init c = filled_none (deck_code c.args.deck.now) refl
-
-pub loop-p-preserved : goal.loop-p-preserved
-loop-p-preserved c = filled_more (deck_code c.args.deck.now) c.loop-p.invariant c.loop-p-test.true c.dealt_code.ensures
-
 pub returns : goal.returns
-returns c = filled_end (deck_code c.args.deck.now) c.loop-p.invariant c.loop-p-test.false
+returns c = from_fn_listed _ (deck_code c.args.deck.now) _ (λ i y q k. search (rules, tests)) c.from_fn.result 416 c.from_fn.ensures.items

@@ -14,14 +14,14 @@ bounds-starts-i c = omega (arith, c.requires.parts.starts8)
 
 pub overflow_add-at : goal.overflow_add-at
 overflow_add-at c =
-    omega (arith, c.wide-count.ensures, c.requires.parts.within (c.args.p / room) (omega arith))
+    omega (arith, c.from-count.ensures, c.requires.parts.within (c.args.p / room) (omega arith))
 
 pub bounds-codes-at : goal.bounds-codes-at
 bounds-codes-at c =
-    omega (arith, c.wide-count.ensures, c.requires.parts.within (c.args.p / room) (omega arith))
+    omega (arith, c.from-count.ensures, c.requires.parts.within (c.args.p / room) (omega arith))
 
 pub returns-then-row-count : goal.returns-then-row-count
-returns-then-row-count c = sym (part_code_lem c.args.starts.now c.args.counts.now c.args.codes.now (c.args.p / room) (c.args.p % room) (omega (arith, c.wide-count.ensures)))
+returns-then-row-count c = sym (part_code_lem c.args.starts.now c.args.counts.now c.args.codes.now (c.args.p / room) (c.args.p % room) (omega (arith, c.from-count.ensures)))
 
 pub returns : goal.returns
-returns c = sym (part_past c.args.starts.now c.args.counts.now c.args.codes.now (c.args.p / room) (c.args.p % room) (omega (arith, c.wide-count.ensures)))
+returns c = sym (part_past c.args.starts.now c.args.counts.now c.args.codes.now (c.args.p / room) (c.args.p % room) (omega (arith, c.from-count.ensures)))

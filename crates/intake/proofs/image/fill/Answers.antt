@@ -1,18 +1,9 @@
--- What `fill` leaves to be shown: the array is filled place by place.
-use mathlib.Core.Path.{refl}
-use Rattle.base.proofs.Filling.{filled_none, filled_more, filled_end}
+-- What `fill` leaves to be shown: each place has its code.
+use borrow.Author.Rules.{rules}
+use borrow.Author.Tests.{tests}
+use Rattle.base.proofs.Lists.{from_fn_listed}
 use Rattle.intake.specs.Inside.{part_code}
 use Rattle.intake.proofs.image.fill.Goals as goal
 
-pub loop-p-init : goal.loop-p-init
-loop-p-init c =
-    filled_none (part_code c.args.starts.now c.args.counts.now c.args.codes.now) refl
-
-pub code_at-requires : goal.code_at-requires
-code_at-requires c = record { parts = c.requires; p_lt_tableau_room = c.loop-p-test.true }
-
-pub loop-p-preserved : goal.loop-p-preserved
-loop-p-preserved c = filled_more (part_code c.args.starts.now c.args.counts.now c.args.codes.now) c.loop-p.invariant c.loop-p-test.true c.code_at.ensures
-
 pub returns : goal.returns
-returns c = filled_end (part_code c.args.starts.now c.args.counts.now c.args.codes.now) c.loop-p.invariant c.loop-p-test.false
+returns c = from_fn_listed _ (part_code c.args.starts.now c.args.counts.now c.args.codes.now) _ (λ i y q k. search (rules, tests)) c.from_fn.result 416 c.from_fn.ensures.items

@@ -5,6 +5,3 @@ use Rattle.nodes.proofs.path.play_down.Given as goal
 
 abbrev pub invariant-loop-left : goal.invariant-loop-left
 invariant-loop-left l = Replaying (laid l.initial.cells l.initial.foundation l.initial.counts l.initial.tableau) l.path l.deep (laid l.cells l.foundation l.counts l.tableau) l.cost l.left
-
-abbrev pub decreases-loop-left : goal.decreases-loop-left
-decreases-loop-left l = l.left

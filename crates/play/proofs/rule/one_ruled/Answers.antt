@@ -29,12 +29,12 @@ code_of-code-requires c = subst (λ (d : Card). is_value d.value ≡ true) (sym 
 pub code_of-requires : goal.code_of-requires
 code_of-requires c = let b = laid c.args.cells.now c.args.foundation.now c.args.counts.now c.args.tableau.now in
     let top = c.top_there.ensures ∙ ap (λ (p : Place). top_of (there (shown b) p)) c.source_of.ensures in
-    one_value b c.args.m c.requires.sound c.requires.m_value c.requires.m_value_2 c.requires.m_value_3 c.requires.m_value_4 top c.in-Is.is
+    one_value b c.args.m c.requires.sound c.requires.m_value c.requires.m_value_2 c.requires.m_value_3 c.requires.m_value_4 top c.in-Some.is
 
 pub returns-then-code_of-code : goal.returns-then-code_of-code
 returns-then-code_of-code c = let b = laid c.args.cells.now c.args.foundation.now c.args.counts.now c.args.tableau.now in
     let top = c.top_there.ensures ∙ ap (λ (p : Place). top_of (there (shown b) p)) c.source_of.ensures in
-    one_other b c.args.m c.requires.sound c.requires.m_value c.requires.m_value_2 c.requires.m_value_3 c.requires.m_value_4 top c.in-Is.is (c.code_of-code.ensures ∙ ap code_of c.deepest_of.ensures) c.code_of.ensures c.if-code_of-code.true
+    one_other b c.args.m c.requires.sound c.requires.m_value c.requires.m_value_2 c.requires.m_value_3 c.requires.m_value_4 top c.in-Some.is (c.code_of-code.ensures ∙ ap code_of c.deepest_of.ensures) c.code_of.ensures c.if-code_of-code.true
 
 pub put_there-requires : goal.put_there-requires
 put_there-requires c = record { sound = c.requires.sound; place_value = subst (λ (p : Place). is_place p ≡ true) (sym c.target_of.ensures) (said_to c.args.m c.requires.m_value); code_value = subst (λ (x : ℕ). is_card x ≡ true) (sym (c.code_of-code.ensures ∙ ap code_of c.deepest_of.ensures)) (code_is_card _ (said_value c.args.m c.requires.m_value)) }
@@ -42,4 +42,4 @@ put_there-requires c = record { sound = c.requires.sound; place_value = subst (�
 pub returns : goal.returns
 returns c = let b = laid c.args.cells.now c.args.foundation.now c.args.counts.now c.args.tableau.now in
     let top = c.top_there.ensures ∙ ap (λ (p : Place). top_of (there (shown b) p)) c.source_of.ensures in
-    one_lands b c.args.m c.requires.sound c.requires.m_value c.requires.m_value_2 c.requires.m_value_3 c.requires.m_value_4 top c.in-Is.is (c.code_of-code.ensures ∙ ap code_of c.deepest_of.ensures) c.code_of.ensures c.if-code_of-code.false (c.put_there.ensures ∙ ap (λ (p : Place). landing (shown b) p c.code_of-code.result) c.target_of.ensures)
+    one_lands b c.args.m c.requires.sound c.requires.m_value c.requires.m_value_2 c.requires.m_value_3 c.requires.m_value_4 top c.in-Some.is (c.code_of-code.ensures ∙ ap code_of c.deepest_of.ensures) c.code_of.ensures c.if-code_of-code.false (c.put_there.ensures ∙ ap (λ (p : Place). landing (shown b) p c.code_of-code.result) c.target_of.ensures)

@@ -1,14 +1,9 @@
 -- What `progress_score` leaves to be shown: both parts are small.
 use mathlib.Core.Path.{ap₂, ◌∙◌}
 use lib.IntN.{sub_ℕ}
-use native.Mathlib.Omega.{arith}
 use Rattle.score.specs.Scores.{progress}
-use Rattle.score.proofs.Keys.{progress_adds_most, progress-takes_most}
 use Rattle.score.proofs.Signs.{passed_on, progress_fits}
 use Rattle.score.proofs.scores.progress_score.Goals as goal
-
-pub signed-requires : goal.signed-requires
-signed-requires c = record { adds_bound = omega (arith, c.progress_adds.ensures, progress_adds_most c.args.f c.requires); takes_bound = omega (arith, c.progress_takes.ensures, progress-takes_most c.args.f c.requires) }
 
 pub returns : goal.returns
 unfolding progress

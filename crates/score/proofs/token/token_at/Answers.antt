@@ -27,9 +27,6 @@ put-blocked-requires c = record { n_bound = omega (arith, c.requires.bounded); n
 pub put-requires : goal.put-requires
 put-requires c = record { n_bound = omega (arith, c.requires.bounded); n_in_bounds = omega (arith, c.requires.f_in_bounds, token_long c.args.f, c.out-1.given, c.put-home.ensures.after) }
 
-pub shape_of-out : goal.shape_of-out
-shape_of-out c = omega (arith, c.out-1.given, c.out-2-1.given)
-
 pub returns : goal.returns
 unfolding token_of
 returns c = (reach_next 6 (search rules) (reach_next 5 (search rules) (reach_next 4 (search rules) (reach_next 3 (search rules) (reach_next 2 (search rules) (reach_next 1 (search rules) (reach_next 0 (search rules) (reach_start (parts c.args.f) c.args.out.now c.requires.f_in_bounds) c.put-home.ensures) c.put-immediate.ensures) c.put-used.ensures) c.put-empty.ensures) c.put-longest.ensures) c.put-blocked.ensures) c.put.ensures).puts

@@ -1,26 +1,59 @@
 -- What `between_at` leaves to be shown: an empty column takes the most, an occupied one what fits.
+use Rattle.board.specs.Refusal.{answered}
+use mathlib.Core.Path.{◌≡◌, ap, ◌∙◌, subst}
 use native.Mathlib.Omega.{arith}
+use Rattle.std.specs.Prelude.{Some, None, Err}
+use Rattle.std.proofs.lemmas.Result.{err_from_is_err_and}
 use Rattle.board.specs.Record.{shown, laid}
+use Rattle.board.specs.declared.Refusal.TheVariants.{NoFit}
 use Rattle.play.proofs.Playing.{count-there}
+use Rattle.sense.specs.Meant.{fitting}
+use Rattle.sense.specs.Inner.{Fitting}
 use Rattle.sense.proofs.Meaning.{most_some}
 use Rattle.sense.proofs.Finding.{most_there, fitting-there, vacant_yes, vacant_no, means_most, means_fit, fits_none}
 use Rattle.sense.proofs.meant.between_at.Goals as goal
+use Rattle.sense.proofs.meant.between_at.Goals.{then-counts-j-eq0, else-counts-j-eq0+in_ok-count}
 
-pub run_move-requires : goal.run_move-requires
-run_move-requires c = let b = laid c.args.cells.now c.args.foundation.now c.args.counts.now c.args.tableau.now in
-    record { sound = c.requires.sound; i_bound = c.requires.i_bound; le_n = omega (arith, c.most_into-most.ensures, most_some (shown b) c.args.i c.args.j (omega (arith, c.requires.bound, count-there b c.requires.sound.in_columns c.args.i c.requires.i_bound))); n_bound = omega (arith, c.most_into-most.ensures, most_there c.requires.sound c.args.i c.args.j c.requires.i_bound) }
+pub returns-in_err-count : goal.returns-in_err-count
+returns-in_err-count c =
+    let b = laid c.args.cells.now c.args.foundation.now c.args.counts.now c.args.tableau.now in
+    let none : c.fitting_at.result ≡ None = grind arith in
+    let zero : fitting (shown b) c.args.i c.args.j ≡ 0 = subst (Fitting (fitting (shown b) c.args.i c.args.j)) none c.fitting_at.ensures in
+    let p = err_from_is_err_and c.from_residual.result c.from_residual.ensures.1 in
+    let why : c.from_residual.result ≡ Err NoFit = grind arith in
+    ap answered why ∙ fits_none (shown b) c.args.i c.args.j (vacant_no c.requires.sound c.args.j c.requires.j_bound c.if-counts-j-eq0.false) zero
 
-pub returns-then-counts-j-eq0 : goal.returns-then-counts-j-eq0
-returns-then-counts-j-eq0 c = let b = laid c.args.cells.now c.args.foundation.now c.args.counts.now c.args.tableau.now in
-    means_most (shown b) c.args.i c.args.j (vacant_yes c.requires.sound c.args.j c.requires.j_bound c.if-counts-j-eq0.true) c.most_into-most.ensures c.run_move.ensures
+pub run_move-requires-clause-le_n : goal.run_move-requires-clause-le_n
+run_move-requires-clause-le_n c =
+    let b = laid c.args.cells.now c.args.foundation.now c.args.counts.now c.args.tableau.now in
+    elim c.if-counts-j-eq0.branch [
+      | then-counts-j-eq0 w ↦
+          let lies = count-there b c.requires.sound.in_columns c.args.i c.requires.i_bound in
+          omega (arith, most_some (shown b) c.args.i c.args.j (omega arith))
+      | else-counts-j-eq0+in_ok-count w ↦
+          let some : w.fitting_at.result ≡ Some w.in_ok-count.count = grind arith in
+          omega (arith, subst (Fitting (fitting (shown b) c.args.i c.args.j)) some w.fitting_at.ensures)
+    ]
 
-pub returns-then-fits-eq0 : goal.returns-then-fits-eq0
-returns-then-fits-eq0 c = let b = laid c.args.cells.now c.args.foundation.now c.args.counts.now c.args.tableau.now in
-    fits_none (shown b) c.args.i c.args.j (vacant_no c.requires.sound c.args.j c.requires.j_bound c.if-counts-j-eq0.false) c.fitting_at-fits.ensures c.if-fits-eq0.true
-
-pub run_move-requires-2 : goal.run_move-requires-2
-run_move-requires-2 c = record { sound = c.requires.sound; i_bound = c.requires.i_bound; le_n = omega (arith, c.if-fits-eq0.false); n_bound = omega (arith, c.fitting_at-fits.ensures, fitting-there c.requires.sound c.args.i c.args.j c.requires.i_bound) }
+pub run_move-requires-clause-n_bound : goal.run_move-requires-clause-n_bound
+run_move-requires-clause-n_bound c =
+    let b = laid c.args.cells.now c.args.foundation.now c.args.counts.now c.args.tableau.now in
+    elim c.if-counts-j-eq0.branch [
+      | then-counts-j-eq0 w ↦ omega (arith, most_there c.requires.sound c.args.i c.args.j c.requires.i_bound)
+      | else-counts-j-eq0+in_ok-count w ↦
+          let some : w.fitting_at.result ≡ Some w.in_ok-count.count = grind arith in
+          let fits = subst (Fitting (fitting (shown b) c.args.i c.args.j)) some w.fitting_at.ensures in
+          omega (arith, fitting-there c.requires.sound c.args.i c.args.j c.requires.i_bound)
+    ]
 
 pub returns : goal.returns
-returns c = let b = laid c.args.cells.now c.args.foundation.now c.args.counts.now c.args.tableau.now in
-    means_fit (shown b) c.args.i c.args.j (vacant_no c.requires.sound c.args.j c.requires.j_bound c.if-counts-j-eq0.false) c.fitting_at-fits.ensures c.if-fits-eq0.false c.run_move-2.ensures
+returns c =
+    let b = laid c.args.cells.now c.args.foundation.now c.args.counts.now c.args.tableau.now in
+    elim c.if-counts-j-eq0.branch [
+      | then-counts-j-eq0 w ↦
+          means_most (shown b) c.args.i c.args.j (vacant_yes c.requires.sound c.args.j c.requires.j_bound w.if-counts-j-eq0.true) (w.count-is ∙ w.most_into-count.ensures) c.run_move.ensures
+      | else-counts-j-eq0+in_ok-count w ↦
+          let some : w.fitting_at.result ≡ Some w.in_ok-count.count = grind arith in
+          let fits = subst (Fitting (fitting (shown b) c.args.i c.args.j)) some w.fitting_at.ensures in
+          means_fit (shown b) c.args.i c.args.j (vacant_no c.requires.sound c.args.j c.requires.j_bound w.if-counts-j-eq0.false) (w.count-is ∙ fits.0) (omega arith) c.run_move.ensures
+    ]

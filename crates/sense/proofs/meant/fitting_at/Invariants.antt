@@ -5,6 +5,3 @@ use Rattle.sense.proofs.meant.fitting_at.Given as goal
 
 abbrev pub invariant-loop-n : goal.invariant-loop-n
 invariant-loop-n l = Fits (laid l.cells l.foundation l.counts l.tableau) l.i l.j l.n
-
-abbrev pub decreases-loop-n : goal.decreases-loop-n
-decreases-loop-n l = l.n

@@ -13,8 +13,8 @@ returns-in_default c = let b = laid c.args.cells.now c.args.foundation.now c.arg
     meant_bare (shown b) c.args.jot (sym c.goes_away.ensures ∙ c.if-not-goes_away.false) (sym c.top_there.ensures ∙ c.in_default.is)
 
 pub sense_at-requires : goal.sense_at-requires
-sense_at-requires c = record { sound = c.requires.sound; well_made = c.requires.well_made; jot_value = sym c.top_there.ensures ∙ c.in-Is.is }
+sense_at-requires c = record { sound = c.requires.sound; well_made = c.requires.well_made; jot_value = sym c.top_there.ensures ∙ c.in-Some.is }
 
 pub returns : goal.returns
 returns c = let b = laid c.args.cells.now c.args.foundation.now c.args.counts.now c.args.tableau.now in
-    c.sense_at.ensures ∙ meant-there (shown b) c.args.jot (sym c.goes_away.ensures ∙ c.if-not-goes_away.false) (sym c.top_there.ensures ∙ c.in-Is.is)
+    c.sense_at.ensures ∙ meant-there (shown b) c.args.jot (sym c.goes_away.ensures ∙ c.if-not-goes_away.false) (sym c.top_there.ensures ∙ c.in-Some.is)

@@ -1,9 +1,0 @@
--- The words before k are said.
-use Rattle.std.proofs.Common.{length, ◌-◌, ◌≤◌}
-use Rattle.saying.proofs.sheet.Given as goal
-
-abbrev pub invariant-loop-k : goal.invariant-loop-k
-invariant-loop-k g l = l.k ≤ length l.words
-
-abbrev pub decreases-loop-k : goal.decreases-loop-k
-decreases-loop-k g l = length l.words - l.k
