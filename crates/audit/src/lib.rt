@@ -26,7 +26,14 @@ fn count_deals(sheet: &[u64]) -> usize
     requires { length sheet.now ≡ 716 }
     ensures { result ≡ deals sheet.now }
 {
-    (1..=LAST_DEAL).filter(|n| covered_at(sheet, *n)).count()
+    // a `for`: `filter` and `count` take a third more instructions (corbelnib_add, callgrind)
+    let mut count = 0;
+    for i in 0..LAST_DEAL {
+        if covered_at(sheet, i + 1) {
+            count += 1;
+        }
+    }
+    count
 }
 
 // Some words add up to a total: each is taken from what is left of it, so that no sum can wrap.

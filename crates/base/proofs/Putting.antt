@@ -2,12 +2,44 @@
 use mathlib.Core.Path.{◌≡◌, refl, sym, ap, ap₂, ◌∙◌, subst}
 use mathlib.Core.List.{List, [], ◌∷◌, ◌++◌, append_assoc}
 use Prim.Native.Nat.{ℕ, suc, ◌+◌, ◌<◌, ◌≤◌}
+use native.Mathlib.Numerals.{add-one}
 use native.Mathlib.Omega.{arith}
-use lib.ListN.{length, get_or, take, drop, length-append, length-drop, take-append-drop}
-use lib.Seq.{take-suc, drop-drop, length-take-le, take_at, drop-append-add}
+use lib.ListN.{length, get_or, set, take, drop, length-append, length-drop, take-append-drop}
+use lib.Seq.{paste, paste-zero, paste-suc, length-paste, take-length, take-suc, drop-drop, length-take-le, take_at, drop-append-add}
 use Rattle.base.specs.Words.{concat}
 use Rattle.base.proofs.Words.{concat-append, concat_one}
 use Rattle.base.specs.Put.{Puts, over}
+
+-- ---- a loop that copies: the first k bytes are put
+
+pub record Copied (old now s : List ℕ) (at k : ℕ) : Type 0 where
+  pub upto : k ≤ length s
+  pub paste : now ≡ paste old at s k
+
+pub copy_start : (old s : List ℕ) (at : ℕ) → Copied old old s at 0
+copy_start old s at = record { upto = omega arith; paste = paste-zero old at s }
+
+module _ {old now s : List ℕ} {at k : ℕ} (room : at + length s ≤ length old) (c : Copied old now s at k) where
+  pub copy_long : length now ≡ length old
+  copy_long = let u = c.upto in ap length c.paste ∙ length-paste old at s k (omega arith) c.upto
+
+  pub copy_more : k < length s → Copied old (set now (at + k) (get_or s k 0)) s at (k + 1)
+  copy_more h =
+      record {
+        upto = omega arith;
+        paste = ap (λ (l : List ℕ). set l (at + k) (get_or s k 0)) c.paste ∙ paste-suc old at s k 0 (omega arith) h
+            ∙ ap (λ (n : ℕ). paste old at s n) (sym (add-one k));
+      }
+
+  pub copy_end : length s ≤ k → Puts old now at (at + length s) s
+  copy_end h =
+      let u = c.upto in
+      record {
+        room = c.paste ∙ ap (λ (n : ℕ). paste old at s n) (let q : k ≡ length s = omega arith in q)
+            ∙ ap (λ (l : List ℕ). take at old ++ l ++ drop (at + length s) old) (take-length s)
+            ∙ append_assoc (take at old) s (drop (at + length s) old);
+        after = refl;
+      }
 
 -- ---- one after the other
 

@@ -5,7 +5,7 @@ ghost use Rattle.std.specs.Prelude.{All};
 pub fn clear<T: Copy + Default>(s: &mut [T])
     ensures { All T.is_default s.new }
 {
-    for place in s.iter_mut() {
-        *place = T::default();
+    for word in 0..s.len() {
+        s[word] = T::default();
     }
 }

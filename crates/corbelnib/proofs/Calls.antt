@@ -1,19 +1,49 @@
 -- An answer that C gets is the answer of a call of the search that keeps its promise: T1 to T5
 -- (search/proofs/Judge.antt) hold for it.
-use mathlib.Core.Path.{◌≡◌, sym, ap, ◌∙◌}
+use mathlib.Core.Path.{◌≡◌, refl, sym, ap, ◌∙◌}
 use mathlib.Core.Bool.{Bool, true, cond, ◌||◌}
 use mathlib.Core.List.{List}
 use mathlib.Core.Logic.{inl, inr}
-use Prim.Native.Nat.{ℕ}
+use Prim.Native.Nat.{ℕ, zero, suc, ◌≤◌}
+use native.Mathlib.Omega.{arith}
 use borrow.Author.Tests.{eq-eqb, le-leb}
 use lib.Dec.{eqb}
 use lib.ListN.{length}
+use Rattle.std.specs.Prelude.{Ok}
+use Rattle.finish.specs.Said.{said_number, Told, told}
+use Rattle.finish.specs.declared.Said.{Said}
+use Rattle.finish.specs.declared.Said.TheVariants.{Won, BestAtLimit, BestExhausted, Limit, Exhausted, BestIsWon, OutOfNodes}
 use Rattle.solver.specs.Searched.{Outcome, refused_with, searched}
 use Rattle.solver.specs.Told.{Call, IsAnswer}
 use Rattle.crossing.specs.Wire.{board_in}
 use Rattle.corbelnib.specs.Judged.{leaves, pointed, judge_left}
 use Rattle.crossing.specs.Numbers.{flag, is_answer}
 use Rattle.memory.specs.Memory.{lent}
+
+-- which answer has a number
+pub said_by : ℕ → Said
+said_by zero = Won
+said_by (suc zero) = BestAtLimit
+said_by (suc (suc zero)) = BestExhausted
+said_by (suc (suc (suc zero))) = Limit
+said_by (suc (suc (suc (suc zero)))) = Exhausted
+said_by (suc (suc (suc (suc (suc zero))))) = BestIsWon
+said_by (suc (suc (suc (suc (suc (suc n)))))) = OutOfNodes
+
+said_small : (n : ℕ) → n ≤ 5 → said_number (said_by n) ≡ n
+unfolding said_by
+said_small zero h = refl
+said_small (suc zero) h = refl
+said_small (suc (suc zero)) h = refl
+said_small (suc (suc (suc zero))) h = refl
+said_small (suc (suc (suc (suc zero)))) h = refl
+said_small (suc (suc (suc (suc (suc zero))))) h = refl
+said_small (suc (suc (suc (suc (suc (suc n)))))) h = absurd (let w : ⊥ = omega arith in w)
+
+pub said_again : (n : ℕ) → IsAnswer n → said_number (said_by n) ≡ n
+unfolding said_by
+said_again n (inl h) = said_small n h
+said_again n (inr e) = ap (λ (k : ℕ). said_number (said_by k)) e ∙ sym e
 
 pub is_answer_lem : (n : ℕ) → IsAnswer n → is_answer n ≡ true
 is_answer_lem n (inl h) = ap (λ (x : Bool). x || eqb n 23) (le-leb n 5 h)
@@ -50,3 +80,11 @@ module _ (nodes heap keys costs list : List ℕ) (pops moves : ℕ) (board : Lis
           list_after = l;
           holds = left_is;
         }
+
+    -- it tells what the search hands back for an answer
+    pub call_told : told (Ok (record { said = said_by r; pops = p; moves = m })) ≡ call_of.result
+    call_told = ap (λ (x : ℕ). let t : Told = record { number = x; pops = p; moves = m } in t) (said_again r a)
+
+    -- and its number is the number handed back
+    pub call_number : call_of.result.number ≡ r
+    call_number = refl

@@ -17,6 +17,7 @@ ghost use Rattle.season.specs.Season.{lent_of};
 ghost use Rattle.corbelnib.specs.Calls.{promise, asks, runs, lends};
 ghost use Rattle.corbelnib.specs.Calls as call;
 
+use board::verdict::inspect;
 use board::{Board, Refusal};
 use crossing::{hand, tell, wire};
 use replay::Replayed;
@@ -26,7 +27,10 @@ use safe::Chained;
 pub fn corbelnib_examine(board: &[u8]) -> u8
     ensures { result ≡ (promise call.examine board.now tt).number }
 {
-    tell::verdict(wire::lent(board).and_then(board::examine))
+    match wire::lent(board) {
+        Ok(b) => tell::verdict(board::examine(b)),
+        Err(why) => board::number(why),
+    }
 }
 
 // A board from its image: 10 to 15, 21.
@@ -124,12 +128,12 @@ pub fn corbelnib_chain(board: &[u8], after: &mut [u8], moves: &mut usize) -> u8
 }
 
 // The records of the allowed moves of a kind on a board: 12 to 15, 30, 21, or their number.
-fn found(b: Board, kind: u8, records: &mut [u8]) -> Result<usize, Refusal>
-    ensures { (n : ℕ) → with_room records.new (value_left (answered result) n) ≡ list_left (after (examined b) (found_by (shown b) (way_asked kind))) records.old n }
+fn found(b: &Board, kind: u8, records: &mut [u8]) -> Result<usize, Refusal>
+    ensures { (n : ℕ) → with_room records.new (value_left (answered result) n) ≡ list_left (after (examined b.now) (found_by (shown b.now) (way_asked kind))) records.old n }
 {
-    board::examine(b)?;
+    inspect(&b.cells, &b.foundation, &b.counts, &b.tableau)?;
     let way = tell::way_of(kind).ok_or(Refusal::OutOfRange)?;
-    generators::find(b, way, records)
+    generators::find(*b, way, records)
 }
 
 // The records of the allowed moves of a kind, and their number: 12 to 15, 30, 21.
@@ -137,7 +141,7 @@ pub fn corbelnib_moves(board: &[u8], kind: u8, records: &mut [u8], count: &mut u
     ensures { left result (records.new, count.new) ≡ promise call.moves (board.now, kind) (records.old, count.old) }
 {
     match wire::lent(board) {
-        Ok(b) => tell::value(found(b, kind, records), count),
+        Ok(b) => tell::value(found(&b, kind, records), count),
         Err(why) => board::number(why),
     }
 }
@@ -175,9 +179,13 @@ pub fn corbelnib_priority(board: &[u8], bytes: &[u8], priority: &mut i64) -> u8
 pub fn corbelnib_scores(board: &[u8], heuristic: &mut i64, progress: &mut i64) -> u8
     ensures { left result (heuristic.new, progress.new) ≡ promise call.scores board.now (heuristic.old, progress.old) }
 {
-    let start = wire::lent(board);
-    tell::value(start.and_then(score::heuristic_of), heuristic);
-    tell::value(start.and_then(score::progress_of), progress)
+    match wire::lent(board) {
+        Ok(b) => {
+            tell::value(score::heuristic_of(b), heuristic);
+            tell::value(score::progress_of(b), progress)
+        }
+        Err(why) => board::number(why),
+    }
 }
 
 // The signature: 12 to 15.
@@ -283,9 +291,9 @@ pub fn corbelnib_judge(
         Ok(judged) => {
             *pops = judged.pops;
             *moves = judged.moves;
-            finish::number(judged.said)
+            finish::number(Ok(judged.said))
         }
-        Err(why) => board::number(why),
+        Err(why) => finish::number(Err(why)),
     }
 }
 

@@ -18,6 +18,11 @@ said_number Exhausted = 4
 said_number BestIsWon = 5
 said_number OutOfNodes = 23
 
+-- SCOPE.md's number of an answer, or of why there is none
+abbrev pub number_said : Result Said Refusal → ℕ
+number_said (Ok said) = said_number said
+number_said (Err why) = number_of why
+
 -- what a caller of the search is told: a number, the pops, and how many moves the list has
 pub record Told : Type 0 where
   pub number : ℕ

@@ -8,11 +8,11 @@ ghost use Rattle.nodes.specs.Nodes.{Nodes};
 ghost use Rattle.nodes.specs.Line.{line_to, table_to};
 ghost use Rattle.questions.specs.Questions.{won_on};
 ghost use Rattle.memory.specs.declared.Ended.TheVariants.{Limit};
-ghost use Rattle.finish.specs.Said.{said_number};
+ghost use Rattle.finish.specs.Said.{number_said};
 ghost use Rattle.finish.specs.Inner.{Closed, Gives, line_or, limit_said, answer_by};
 ghost use Rattle.moves.specs.Written.{list_room};
 
-use board::Board;
+use board::{Board, Refusal};
 use memory::{Counts, Ended};
 
 // How a search was answered; specs/Said.antt has SCOPE.md's number for each.
@@ -35,11 +35,14 @@ pub struct Judged {
     pub moves: usize,
 }
 
-// SCOPE.md's number of an answer.
-pub fn number(said: Said) -> u8
-    ensures { result ≡ said_number said }
+// SCOPE.md's number of an answer, or of why there is none.
+pub fn number(answer: Result<Said, Refusal>) -> u8
+    ensures { result ≡ number_said answer }
 {
-    said as u8
+    match answer {
+        Ok(said) => said as u8,
+        Err(why) => board::number(why),
+    }
 }
 
 // The line of node i is the list.

@@ -1,14 +1,14 @@
 // Items that stand one after the other in some bytes, for the test programs; knows no cards.
 #![tactic(auto)]
 
-ghost use Rattle.std.specs.Prelude.{◌≡◌, ◌↔◌, ◌<◌, ◌≤◌, drop, length, take, IsSome, MatchOption, OnSome};
+ghost use Rattle.std.specs.Prelude.{◌≡◌, ◌↔◌, ◌<◌, ◌≤◌, ⊤, List, Option, ℕ, drop, length, take, IsSome, MatchOption, OnSome};
 ghost use Rattle.std.specs.Iterator.{at_most};
 ghost use Rattle.framed.specs.Items.{counted_size};
 
 use std::marker::PhantomData;
 
 // The most bytes of standard input that a program reads.
-pub const MOST: u64 = 65_536;
+pub const MOST: usize = 65_536;
 
 // Takes an item that begins with its count, two bytes with the higher one first, off the bytes; none where fewer are
 // left.
@@ -42,9 +42,13 @@ pub fn counted<'a>(bytes: &mut &'a [u8]) -> Option<&'a [u8]>
 
 // What can stand in some bytes, and be taken off them.
 pub trait Item<'a>: Sized {
+    // Holds of the bytes before, the item that is taken off their front, and the bytes after.
+    ghost taken: { List ℕ → Option Self → List ℕ → Type 0 } = { λ _ _ _. ⊤ };
+
     // The item in front; none where no whole one is left.
     fn take(bytes: &mut &'a [u8]) -> Option<Self>
-        ensures { OnSome result (length bytes.new.now < length bytes.old.now) };
+        ensures item { taken bytes.old.now result bytes.new.now }
+        ensures shorter { OnSome result (length bytes.new.now < length bytes.old.now) };
 }
 
 // The items in some bytes, one after the other.
@@ -64,6 +68,9 @@ pub fn items_in<'a, T: Item<'a>>(bytes: &'a [u8]) -> Items<'a, T>
 impl<'a, T: Item<'a>> Iterator for Items<'a, T> {
     type Item = T;
 
+    // Each step takes one item off the front of what is left.
+    ghost next_gives = { λ s r t. T.taken s.bytes.now r t.bytes.now };
+
     ghost remaining = { λ s. at_most (length s.bytes.now) };
 
     fn next(&mut self) -> Option<T> {
@@ -72,6 +79,9 @@ impl<'a, T: Item<'a>> Iterator for Items<'a, T> {
 }
 
 impl<'a> Item<'a> for &'a [u8] {
+    ghost taken = { λ before result after. (IsSome result ↔ (counted_size before ≤ length before)) × MatchOption result (after ≡ before)
+        (λ item. (item.now ≡ drop 2 (take (counted_size before) before)) × (after ≡ drop (counted_size before) before)) };
+
     fn take(bytes: &mut &'a [u8]) -> Option<&'a [u8]> {
         counted(bytes)
     }

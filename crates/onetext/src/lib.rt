@@ -37,7 +37,7 @@ fn put_answer(
     };
     let pops = judged.pops as u8;
     let moves = judged.moves as u8;
-    let first = [finish::number(judged.said), pops, moves];
+    let first = [finish::number(Ok(judged.said)), pops, moves];
     let after = write::put_line(out, at, &first);
     write::put_records(out, after, list, judged.moves)
 }

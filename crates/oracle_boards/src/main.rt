@@ -4,7 +4,6 @@
 
 use saying::Spaced;
 use std::io;
-use std::io::Read;
 
 // An image after a byte 1, a deck of 52 after a byte 2.
 #[derive(Clone, Copy)]
@@ -50,9 +49,9 @@ fn of_deck(rt: &impl Print, deck: &[u8]) -> io::Result<()> {
 }
 
 fn main(rt: HostRuntime) -> io::Result<()> {
-    let mut bytes = Vec::new(rt.alloc());
-    rt.stdin().take(framed::MOST).read_to_end(&mut bytes)?;
-    for item in framed::items_in::<Item>(&bytes) {
+    let mut room = [0; framed::MOST];
+    let n = taking::read_full(&mut rt.stdin(), &mut room)?;
+    for item in framed::items_in::<Item>(&room[..n]) {
         match item {
             Item::Image(image) => of_image(&rt, image)?,
             Item::Deck(deck) => of_deck(&rt, deck)?,

@@ -32,15 +32,20 @@ fn mark(i: usize) -> u8 {
 }
 
 fn fill(out: &mut [u8]) {
-    for (i, byte) in out.iter_mut().enumerate() {
-        *byte = mark(i);
+    for i in 0..out.len() {
+        out[i] = mark(i);
     }
 }
 
 // How many bytes from a place on are as they were filled.
 fn kept(out: &[u8], from: usize) -> usize {
-    let marks = out.iter().enumerate().skip(from);
-    marks.filter(|(i, byte)| **byte == mark(*i)).count()
+    let mut n = 0;
+    for i in from..out.len() {
+        if out[i] == mark(i) {
+            n += 1;
+        }
+    }
+    n
 }
 
 // The kind, how many moves, their records, how many bytes of the room stayed.

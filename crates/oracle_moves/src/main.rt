@@ -7,7 +7,6 @@ mod answers;
 mod beside;
 
 use std::io;
-use std::io::Read;
 
 // The heading of the second list at a byte 2; after any other an image, records after their count, a list after its
 // count.
@@ -39,9 +38,9 @@ impl<'a> framed::Item<'a> for Item<'a> {
 }
 
 fn main(rt: HostRuntime) -> io::Result<()> {
-    let mut bytes = Vec::new(rt.alloc());
-    rt.stdin().take(framed::MOST).read_to_end(&mut bytes)?;
-    for item in framed::items_in::<Item>(&bytes) {
+    let mut room = [0; framed::MOST];
+    let n = taking::read_full(&mut rt.stdin(), &mut room)?;
+    for item in framed::items_in::<Item>(&room[..n]) {
         match item {
             Item::Heading => println!(rt; "columns over seven")?,
             Item::Board {

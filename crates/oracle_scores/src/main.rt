@@ -7,7 +7,6 @@ use card::Card;
 use moves::Move;
 use saying::Hex;
 use std::io;
-use std::io::Read;
 
 // What lent room holds before a call.
 const MARK: u8 = 7;
@@ -143,9 +142,9 @@ fn of_image(rt: &impl Print, image: &[u8]) -> io::Result<()> {
 }
 
 fn main(rt: HostRuntime) -> io::Result<()> {
-    let mut bytes = Vec::new(rt.alloc());
-    rt.stdin().take(framed::MOST).read_to_end(&mut bytes)?;
-    for item in framed::items_in::<Item>(&bytes) {
+    let mut room = [0; framed::MOST];
+    let n = taking::read_full(&mut rt.stdin(), &mut room)?;
+    for item in framed::items_in::<Item>(&room[..n]) {
         match item {
             Item::Heading => println!(rt; "columns over seven")?,
             Item::Image(image) => of_image(&rt, image)?,

@@ -3,7 +3,6 @@
 #![tactic(auto)]
 
 use std::io;
-use std::io::Read;
 
 // An image after a byte 1, the heading of the second list at a byte 3, octets after their count and any other byte.
 #[derive(Clone, Copy)]
@@ -31,9 +30,9 @@ fn of_image(rt: &impl Print, image: &[u8]) -> io::Result<()> {
 }
 
 fn main(rt: HostRuntime) -> io::Result<()> {
-    let mut bytes = Vec::new(rt.alloc());
-    rt.stdin().take(framed::MOST).read_to_end(&mut bytes)?;
-    for item in framed::items_in::<Item>(&bytes) {
+    let mut room = [0; framed::MOST];
+    let n = taking::read_full(&mut rt.stdin(), &mut room)?;
+    for item in framed::items_in::<Item>(&room[..n]) {
         match item {
             Item::Image(image) => of_image(&rt, image)?,
             Item::Heading => println!(rt; "columns over seven")?,

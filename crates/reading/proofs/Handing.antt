@@ -24,7 +24,7 @@ use Rattle.notation.specs.Form.{Reading, jots, wrong, line_in, formed_by}
 use Rattle.sense.specs.Outcome.{Outcome, gives, refuses, refuses_at, checked, most_moves, counted, line_told}
 use Rattle.reading.specs.Lines.{moves_from, read_by, line_read}
 use Rattle.reading.specs.Asked.{read_asked, list_after, Reads}
-use Rattle.reading.specs.Inner.{LeftBy, ReadTo, ReadInto}
+use Rattle.reading.specs.Inner.{LeftBy, ReadTo, kept, ReadInto}
 use Rattle.notation.specs.declared.WrongSign.{WrongSign}
 use Rattle.sense.specs.declared.LineError.{LineError}
 use Rattle.sense.specs.declared.LineError.TheVariants as line
@@ -46,6 +46,15 @@ module _ {o : Outcome (List Move)} {old now : List ℕ} {r : Result ℕ LineErro
       by (refuses k) q c l = let z : ◌≡◌ {A = ℕ} 0 1 = cc in absurd (let w : ⊥ = omega arith in w)
       by (refuses_at k p) q c l = let z : ◌≡◌ {A = ℕ} 0 1 = cc in absurd (let w : ⊥ = omega arith in w)
 
+  -- a refusal leaves lent room alone
+  pub refuses_room : (lent : List ℕ) → ((n : ℕ) → line_told r ≡ gives n → ⊥) → lent ≡ list_after o lent
+  refuses_room lent d = by o t.told
+    where
+      by : (x : Outcome (List Move)) → line_told r ≡ counted x → lent ≡ list_after x lent
+      by (gives ms) c = absurd (d (length ms) c)
+      by (refuses k) c = refl
+      by (refuses_at k p) c = refl
+
 module _ {o : Outcome (List Move)} {old now : List ℕ} {n : ℕ} (g : Gave o old now n) where
   -- the records are the first bytes
   used : take (n * 5) now ≡ bytes_of g.moves
@@ -66,6 +75,27 @@ module _ {o : Outcome (List Move)} {old now : List ℕ} {n : ℕ} (g : Gave o ol
         told = ap gives (sym g.many) ∙ sym (ap counted g.gave);
         room = room ∙ sym (ap (λ (x : Outcome (List Move)). list_after x lent) g.gave);
       }
+
+-- ---- the records that go into lent room
+
+module _ {r : Result ℕ LineError} {n : ℕ} (e : n ≡ kept r) where
+  counts : {m : ℕ} → r ≡ Ok m → r ≡ Ok n
+  counts q = q ∙ ap Ok (sym (e ∙ ap kept q))
+
+  -- a refusal puts nothing there
+  pub kept_into : {o : Outcome (List Move)} {old now : List ℕ} → ReadTo o old now r → {lent part : List ℕ} → part ≡ take (n * 5) now → ReadInto o lent (part ++ drop (n * 5) lent) r
+  kept_into {o} {old} {now} d {lent} {part} p = by r refl
+    where
+      none : n ≡ 0 → ((m : ℕ) → line_told r ≡ gives m → ⊥) → ReadInto o lent (part ++ drop (n * 5) lent) r
+      none z never =
+          let same : part ++ drop (n * 5) lent ≡ lent =
+          ap (λ (s : List ℕ). s ++ drop (n * 5) lent) p ∙ ap (λ (i : ℕ). take (i * 5) now ++ drop (i * 5) lent) z in
+          record { told = d.told; room = same ∙ refuses_room d lent never }
+
+      by : (x : Result ℕ LineError) → r ≡ x → ReadInto o lent (part ++ drop (n * 5) lent) r
+      by (Ok m) q = subst (ReadInto o lent (part ++ drop (n * 5) lent)) (sym (counts q)) (into_gave (read_gave d (counts q)) p)
+      by (Err (line.Refused why)) q = none (e ∙ ap kept q) (λ m u. let w = sym (ap line_told q) ∙ u in let z : ◌≡◌ {A = ℕ} 0 1 = cc in omega arith)
+      by (Err (line.At why at)) q = none (e ∙ ap kept q) (λ m u. let w = sym (ap line_told q) ∙ u in let z : ◌≡◌ {A = ℕ} 0 1 = cc in omega arith)
 
 -- ---- how many moves are written
 

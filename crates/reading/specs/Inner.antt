@@ -17,6 +17,7 @@ use Rattle.notation.specs.declared.Jot.{Jot}
 use Rattle.notation.specs.declared.Due.{Due}
 use Rattle.notation.specs.declared.Due.TheVariants.{Source}
 use Rattle.sense.specs.declared.LineError.{LineError}
+use Rattle.sense.specs.declared.LineError.TheVariants as line
 
 -- ---- a written move on a board
 
@@ -84,6 +85,12 @@ LeftBy (refuses_at n p) old new = Unit {0}
 pub record ReadTo (o : Outcome (List Move)) (old new : List ℕ) (r : Result ℕ LineError) : Type 0 where
   pub told : line_told r ≡ counted o
   pub left : LeftBy o old new
+
+-- how many records go into lent room: none by a refusal
+abbrev pub kept : Result ℕ LineError → ℕ
+kept (Ok n) = n
+kept (Err (line.Refused why)) = 0
+kept (Err (line.At why p)) = 0
 
 -- the answer, and the records in lent room; a refusal changes nothing
 pub record ReadInto (o : Outcome (List Move)) (old new : List ℕ) (r : Result ℕ LineError) : Type 0 where

@@ -13,7 +13,7 @@ ghost use Rattle.sense.specs.Meant.{meant};
 ghost use Rattle.sense.specs.Outcome.{most_moves};
 ghost use Rattle.reading.specs.Lines.{line_read};
 ghost use Rattle.reading.specs.Asked.{Reads};
-ghost use Rattle.reading.specs.Inner.{Takes, Cuts, EndCuts, Few, ReadTo, ReadInto};
+ghost use Rattle.reading.specs.Inner.{Takes, Cuts, EndCuts, Few, ReadTo, kept, ReadInto};
 
 use board::verdict::inspect;
 use board::{Board, CODES, Refusal};
@@ -130,6 +130,17 @@ fn read_to(
     Ok(n)
 }
 
+// How many records go into the lent list: none by a refusal.
+fn records_kept(read: Result<usize, LineError>) -> usize
+    ensures { result ≡ kept read }
+{
+    match read {
+        Ok(n) => n,
+        Err(LineError::Refused(_)) => 0,
+        Err(LineError::At(_, _)) => 0,
+    }
+}
+
 // A line of at most 200 moves on a well formed board. The records are made in room of our own: a refusal leaves what is lent.
 fn read_few(b: Board, text: &[u8], list: &mut [u8]) -> Result<usize, LineError>
     requires sound { Sound b }
@@ -142,17 +153,17 @@ fn read_few(b: Board, text: &[u8], list: &mut [u8]) -> Result<usize, LineError>
     let mut counts = b.counts;
     let mut tableau = b.tableau;
     let mut records = [0u8; LIST_ROOM];
-    let n = read_to(
+    let read = read_to(
         text,
         &mut records,
         &mut cells,
         &mut foundation,
         &mut counts,
         &mut tableau,
-    )?;
-    let used = n * 5;
+    );
+    let used = records_kept(read) * 5;
     list[..used].copy_from_slice(&records[..used]);
-    Ok(n)
+    read
 }
 
 // A line of n moves: 31 past 200.
@@ -176,6 +187,8 @@ pub fn read_line(b: Board, text: &[u8], list: &mut [u8]) -> Result<usize, LineEr
     if list.len() < LIST_ROOM {
         return Err(Refusal::LittleRoom.into());
     }
-    let n = check(text)?;
-    read_formed(b, text, n, list)
+    match check(text) {
+        Ok(n) => read_formed(b, text, n, list),
+        Err(wrong) => Err(LineError::At(Refusal::WrongText, wrong.place)),
+    }
 }

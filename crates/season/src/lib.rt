@@ -36,7 +36,7 @@ fn enter_deal(
     let j = solver::judge_at(
         b, budget, partial, room, nodes, heap, keys, costs, &mut list,
     );
-    entries::note(sheet, n, finish::number(j.said), j.pops, j.moves);
+    entries::note(sheet, n, finish::number(Ok(j.said)), j.pops, j.moves);
 }
 
 // Deal after deal.

@@ -2,11 +2,9 @@
 #![tactic(auto)]
 
 ghost use Rattle.std.specs.Prelude.{◌≡◌};
-ghost use Rattle.board.specs.declared.Refusal.TheVariants.{WrongText};
-ghost use Rattle.sense.specs.declared.LineError.TheVariants.{Refused, At};
+ghost use Rattle.sense.specs.declared.LineError.TheVariants.{Refused};
 
 use board::Refusal;
-use notation::WrongSign;
 
 pub mod meant;
 pub mod noted;
@@ -23,13 +21,5 @@ impl From<Refusal> for LineError {
 
     fn from(why: Refusal) -> LineError {
         LineError::Refused(why)
-    }
-}
-
-impl From<WrongSign> for LineError {
-    ghost from_gives = { λ wrong e. e ≡ At WrongText wrong.place };
-
-    fn from(wrong: WrongSign) -> LineError {
-        LineError::At(Refusal::WrongText, wrong.place)
     }
 }

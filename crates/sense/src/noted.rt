@@ -27,8 +27,9 @@ fn run_jot<'a>(
     requires destination_bound { destination < 8 }
     ensures { (c : Card) → result ≡ jot_of (shown (laid cells.now foundation.now counts.now tableau.now)) (TableauToTableau source destination count c) }
 {
-    let most = most_into(cells, foundation, counts, tableau, source, destination);
-    if counts[destination] == 0 && count < most {
+    if counts[destination] == 0
+        && count < most_into(cells, foundation, counts, tableau, source, destination)
+    {
         Jot::Counted {
             source,
             destination,

@@ -16,13 +16,17 @@ use std::array;
 
 const OFFSET: u64 = 14695981039346656037;
 
-const PRIME: u64 = 1099511628211;
-
-// Times the prime modulo 2^64.
+// Times 1099511628211 = 2^40 + 2^8 + 2^7 + 2^5 + 2^4 + 2 + 1 modulo 2^64, by shifts and sums: the form that SCOPE.md names.
 fn times_prime(x: u64) -> u64
     ensures { result ≡ x * prime % 2 ^ 64 }
 {
-    x.wrapping_mul(PRIME)
+    let high = x << 40;
+    let with_256 = high.wrapping_add(x << 8);
+    let with_128 = with_256.wrapping_add(x << 7);
+    let with_32 = with_128.wrapping_add(x << 5);
+    let with_16 = with_32.wrapping_add(x << 4);
+    let with_2 = with_16.wrapping_add(x << 1);
+    with_2.wrapping_add(x)
 }
 
 // One word more: XOR first, then times the prime.

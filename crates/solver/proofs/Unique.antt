@@ -59,9 +59,10 @@ module _ {b : Board} (x y : Call b) where
       ∙ sym y.holds
 
   pub solve_once : x.budget ≡ y.budget → x.partial ≡ y.partial → x.scratch ≡ y.scratch → x.list ≡ y.list
-      → (x.result ≡ y.result) × ((x.scratch_after ≡ y.scratch_after) × (x.list_after ≡ y.list_after))
+      → ((x.result ≡ y.result) × ((r s : Result Judged Refusal) → told r ≡ x.result → told s ≡ y.result → r ≡ s)) × ((x.scratch_after ≡ y.scratch_after) × (x.list_after ≡ y.list_after))
   solve_once p q r s =
-      let o = same_outcome p q r s in (
-        ap (λ (v : Outcome). let t : Told = record { number = v.number; pops = v.pops; moves = v.moves } in t) o,
+      let o = same_outcome p q r s in
+      let e : x.result ≡ y.result = ap (λ (v : Outcome). let t : Told = record { number = v.number; pops = v.pops; moves = v.moves } in t) o in (
+        (e, λ u v f g. told-once (f ∙ e ∙ sym g)),
         (ap (λ (v : Outcome). let m : Memory = lent v.nodes v.heap v.keys v.costs in m) o, ap (λ (v : Outcome). v.list) o),
       )

@@ -3,7 +3,6 @@
 #![tactic(auto)]
 
 use std::io;
-use std::io::Read;
 
 fn text(rt: &impl Print, image: &[u8]) -> io::Result<()> {
     let mut out = [0u8; 4096];
@@ -12,9 +11,9 @@ fn text(rt: &impl Print, image: &[u8]) -> io::Result<()> {
 }
 
 fn main(rt: HostRuntime) -> io::Result<()> {
-    let mut bytes = Vec::new(rt.alloc());
-    rt.stdin().take(framed::MOST).read_to_end(&mut bytes)?;
-    for image in framed::items_in::<&[u8]>(&bytes) {
+    let mut room = [0; framed::MOST];
+    let n = taking::read_full(&mut rt.stdin(), &mut room)?;
+    for image in framed::items_in::<&[u8]>(&room[..n]) {
         text(&rt, image)?;
         println!(rt; "--")?;
     }

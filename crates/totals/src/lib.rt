@@ -42,7 +42,7 @@ fn none_common(a: &[u64], b: &[u64]) -> bool
     requires { (length a.now ≡ 716) × (length b.now ≡ 716) }
     ensures { result ≡ apart a.now b.now }
 {
-    (1..=LAST_DEAL).all(|n| !in_both(a, b, n))
+    (1..LAST_DEAL + 1).all(|n| !in_both(a, b, n))
 }
 
 // The words from one place to before another.

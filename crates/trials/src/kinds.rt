@@ -1,90 +1,75 @@
-// The kinds of trial: each writes its label, then SCOPE.md's number, or `board` and what the plain questions say of it.
+// The kinds of trial: each writes SCOPE.md's number after the label, or `board` and what the plain questions say of it.
 use board::{Board, Refusal};
 use intake::{deal, image};
 use saying::Spaced;
-use std::io;
+use std::{array, io};
 
-fn verdict(rt: &impl Print, label: &str, said: Result<Board, Refusal>) -> io::Result<()> {
+fn verdict(rt: &impl Print, said: Result<Board, Refusal>) -> io::Result<()> {
     match said {
-        Ok(b) => println!(rt; "{label} board {}", Spaced(&saying::totals(b))),
-        Err(why) => println!(rt; "{label} {}", saying::refusal(why)),
+        Ok(b) => println!(rt; " board {}", Spaced(&saying::totals(b))),
+        Err(why) => println!(rt; " {}", saying::refusal(why)),
     }
 }
 
-// The tops of the columns of a deck that is dealt.
-fn tops(rt: &impl Print, label: &str, deck: &[u8]) -> io::Result<()> {
-    match deal::deal(deck) {
-        Ok(b) => println!(rt; "{label} {}", Spaced(&saying::tops(b))),
-        Err(why) => println!(rt; "{label} {}", saying::refusal(why)),
+// A record from its 432 bytes: cells, foundation counts, column counts, and the columns' room; those missing are zero.
+fn record_in(bytes: &[u8]) -> Board {
+    let byte = |i: usize| bytes.get(i).copied().unwrap_or(0);
+    Board {
+        cells: array::from_fn(&byte),
+        foundation: array::from_fn(|i| byte(4 + i)),
+        counts: array::from_fn(|i| byte(8 + i)),
+        tableau: array::from_fn(|i| byte(16 + i)),
     }
+}
+
+// The board to ask about: all zero after a refusal.
+fn board_of(said: Result<Board, Refusal>) -> Board {
+    said.unwrap_or_else(|_| record_in(&[]))
+}
+
+// A line of its own for one row of places.
+fn row(rt: &impl Print, label: &[u8], name: &str, places: &[usize]) -> io::Result<()> {
+    rt.write_all(label)?;
+    println!(rt; "_{name} {}", Spaced(places))
 }
 
 // Every plain answer about the board of an image.
-fn known(rt: &impl Print, label: &str, bytes: &[u8]) -> io::Result<()> {
+fn known(rt: &impl Print, label: &[u8], bytes: &[u8]) -> io::Result<()> {
     let said = image::read(bytes);
-    verdict(rt, label, said)?;
-    if let Ok(b) = said {
-        println!(rt; "{label}_tops {}", Spaced(&saying::tops(b)))?;
-        println!(rt; "{label}_cells {}", Spaced(&saying::cells(b)))?;
-        println!(rt; "{label}_home {}", Spaced(&saying::home(b)))?;
-    }
-    Ok(())
-}
-
-// A record from its 432 bytes: cells, foundation counts, column counts, and the columns' room.
-fn record_in(bytes: &[u8]) -> Option<Board> {
-    let (cells, rest) = bytes.split_first_chunk()?;
-    let (foundation, rest) = rest.split_first_chunk()?;
-    let (counts, rest) = rest.split_first_chunk()?;
-    let (tableau, _) = rest.split_first_chunk()?;
-    Some(Board {
-        cells: *cells,
-        foundation: *foundation,
-        counts: *counts,
-        tableau: *tableau,
-    })
+    verdict(rt, said)?;
+    let b = board_of(said);
+    row(rt, label, "tops", &saying::tops(b))?;
+    row(rt, label, "cells", &saying::cells(b))?;
+    row(rt, label, "home", &saying::home(b))
 }
 
 // Column, cell and suit of one number, and the answers that ask for none. A refused question shows its number where
 // the answer would stand.
-fn answers(rt: &impl Print, label: &str, b: Board, place: usize) -> io::Result<()> {
+fn answers(rt: &impl Print, b: Board, place: usize) -> io::Result<()> {
     let top = saying::top(questions::top_of_tableau(b, place));
     let cell = saying::top(questions::free_cell(b, place));
     let home = saying::count(questions::foundation_count(b, place));
-    println!(rt;
-        "{label} {top} {cell} {home} {}",
-        Spaced(&saying::totals(b))
-    )
+    println!(rt; " {top} {cell} {home} {}", Spaced(&saying::totals(b)))
 }
 
-// A trial about a record: whether it is well formed, or what the questions say of it.
-fn of_record(
-    rt: &impl Print,
-    kind: &str,
-    label: &str,
-    place: usize,
-    bytes: &[u8],
-) -> io::Result<()> {
-    let b = record_in(bytes).ok_or(io::ErrorKind::InvalidData)?;
-    match kind {
-        "record" => verdict(rt, label, board::examine(b).map(|()| b)),
-        "ask" => answers(rt, label, b, place),
-        _ => Err(io::Error::from(io::ErrorKind::InvalidData)),
-    }
-}
-
+// The label, and then an image, a deck, the tops of a deck, a record, questions about a record, or else a known image.
 pub(crate) fn tried(
     rt: &impl Print,
-    kind: &str,
-    label: &str,
+    kind: u8,
+    label: &[u8],
     place: usize,
     bytes: &[u8],
 ) -> io::Result<()> {
+    rt.write_all(label)?;
     match kind {
-        "image" => verdict(rt, label, image::read(bytes)),
-        "deck" => verdict(rt, label, deal::deal(bytes)),
-        "tops" => tops(rt, label, bytes),
-        "known" => known(rt, label, bytes),
-        _ => of_record(rt, kind, label, place, bytes),
+        b'i' => verdict(rt, image::read(bytes)),
+        b'd' => verdict(rt, deal::deal(bytes)),
+        b't' => println!(rt; " {}", Spaced(&saying::tops(board_of(deal::deal(bytes))))),
+        b'r' => {
+            let b = record_in(bytes);
+            verdict(rt, board::examine(b).map(|()| b))
+        }
+        b'a' => answers(rt, record_in(bytes), place),
+        _ => known(rt, label, bytes),
     }
 }

@@ -5,34 +5,37 @@
 mod kinds;
 mod script;
 
+use script::MOST;
 use std::io;
 use std::io::Read;
 
-// The most bytes of the script that are read.
-const MOST: u64 = 65_536;
-
-// A trial: its kind, its label, and the words of what is changed in the bytes of the base.
-fn tried(rt: &(impl Print + AllocGlobal), base: &str, line: &str) -> io::Result<()> {
-    let (kind, rest) = line.split_once(' ').ok_or(io::ErrorKind::InvalidData)?;
-    let (label, words) = rest.split_once(' ').unwrap_or((rest, ""));
-    let mut bytes = Vec::new(rt.alloc());
-    script::lay(&mut bytes, base)?;
-    let place = script::lay(&mut bytes, words)?;
-    kinds::tried(rt, kind, label, place, &bytes)
-}
-
-// The words of the base at a line: those of the line if it begins with `=`.
-fn base_at<'a>(base: &'a str, line: &'a str) -> &'a str {
-    line.strip_prefix("= ").unwrap_or(base)
+// A trial: its kind, its label, and the words of what is changed in the bytes of the base. One of more bytes than the
+// room holds is passed over.
+fn tried(rt: &impl Print, kind: u8, base: &[u8], line: &[u8]) -> io::Result<()> {
+    let mut parts = line.splitn(3, |b| *b == b' ').skip(1);
+    let label = parts.next().unwrap_or(&[]);
+    let words = parts.next().unwrap_or(&[]);
+    let mut room = [0u8; MOST];
+    let count = script::lay(&mut room, 0, base);
+    let count = script::lay(&mut room, count, words);
+    match room.get(..count) {
+        Some(bytes) => kinds::tried(rt, kind, label, script::asked(words), bytes),
+        None => Ok(()),
+    }
 }
 
 fn main(rt: HostRuntime) -> io::Result<()> {
-    let script = io::read_to_string(rt.alloc(), rt.stdin().take(MOST))?;
-    let mut base = "";
-    for line in script.as_str().lines() {
-        base = base_at(base, line);
-        if line.starts_with(|first: char| first.is_ascii_lowercase()) {
-            tried(&rt, base, line)?;
+    // A line of zeros, which says nothing, follows a script that is shorter.
+    let mut input = rt.stdin().chain(b"\n".as_slice()).chain(io::repeat(0));
+    let mut script = [0u8; MOST];
+    input.read_exact(&mut script)?;
+    let mut base: &[u8] = &[];
+    // A line is a base, a trial of the kind that its first letter tells, or a remark.
+    for line in script.split(|b| *b == b'\n') {
+        match line {
+            [b'=', ..] => base = line,
+            [kind @ b'a'.., ..] => tried(&rt, *kind, base, line)?,
+            _ => {}
         }
     }
     Ok(())

@@ -109,28 +109,26 @@ fn list(rt: &impl Print, room: &[u8], moves: usize) -> io::Result<()> {
     println!(rt)
 }
 
-fn tried(rt: &(impl Print + AllocGlobal), b: Board, trial: &Trial) -> io::Result<()> {
+fn tried(rt: &impl Print, b: Board, trial: &Trial) -> io::Result<()> {
     let (label, budget, partial, capacity, lent) = *trial;
     let (words, waiting, entries) = room_for(capacity);
-    let mut nodes = vec![in rt.alloc(); u32::MAX; words]?;
-    let mut heap = vec![in rt.alloc(); u64::MAX; waiting]?;
-    let mut keys = vec![in rt.alloc(); 12345678901234567890u64; entries]?;
-    let mut costs = vec![in rt.alloc(); 1u8; entries]?;
-    let mut room = vec![in rt.alloc(); MARK; lent]?;
-    let r = solver::solve(
-        b, budget, partial, &mut nodes, &mut heap, &mut keys, &mut costs, &mut room,
-    );
+    let nodes = &mut [u32::MAX; 192][..words.min(192)];
+    let heap = &mut [u64::MAX; 64][..waiting.min(64)];
+    let keys = &mut [12345678901234567890u64; 128][..entries.min(128)];
+    let costs = &mut [1u8; 128][..entries.min(128)];
+    let room = &mut [MARK; 1100][..lent.min(1100)];
+    let r = solver::solve(b, budget, partial, nodes, heap, keys, costs, room);
     let (number, pops, moves) = match r {
-        Ok(judged) => (finish::number(judged.said), judged.pops, judged.moves),
+        Ok(judged) => (finish::number(Ok(judged.said)), judged.pops, judged.moves),
         Err(why) => (board::number(why), 0, 0),
     };
     print!(rt; "{label} {number} {pops} {moves}")?;
-    print!(rt; " {} {}", saying::dirty(&nodes), saying::dirty(&heap))?;
-    print!(rt; " {} {}", saying::dirty(&keys), saying::dirty(&costs))?;
-    list(rt, &room, moves)
+    print!(rt; " {} {}", saying::dirty(nodes), saying::dirty(heap))?;
+    print!(rt; " {} {}", saying::dirty(keys), saying::dirty(costs))?;
+    list(rt, room, moves)
 }
 
-fn all(rt: &(impl Print + AllocGlobal), image: &[u8], trials: &[Trial]) -> io::Result<()> {
+fn all(rt: &impl Print, image: &[u8], trials: &[Trial]) -> io::Result<()> {
     let Ok(b) = intake::image::read(image) else {
         return Ok(());
     };

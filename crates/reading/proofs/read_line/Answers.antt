@@ -16,15 +16,11 @@ returns-then-list-lt-LIST_ROOM c =
     rw c.into.ensures
     (little_room_lem c.args.b c.args.text.now c.args.list.now (verdict_fine c.inspect.ensures c.in_ok-inspect.was) c.if-list-lt-LIST_ROOM.true)
 
-pub returns-in_err-n : goal.returns-in_err-n
-returns-in_err-n c =
-    let p = err_from_is_err_and c.from_residual-in_err-n.result c.from_residual-in_err-n.ensures.1 in
-    rw (p.1, p.2)
-    (good_room c.args.b c.args.text.now c.args.list.now (verdict_fine c.inspect.ensures c.in_ok-inspect.was) c.if-list-lt-LIST_ROOM.false
-    (formed_wrong (shown c.args.b) c.args.text.now (sym c.check.ensures ∙ c.in_err-n.was)))
-
 pub read_formed-requires-clause-sound : goal.read_formed-requires-clause-sound
 read_formed-requires-clause-sound c = sound c.args.b (record { four = search rules; piles = search rules; eight = search rules; full = search rules }) (verdict_fine c.inspect.ensures c.in_ok-inspect.was)
 
-pub returns : goal.returns
-returns c = good_room c.args.b c.args.text.now c.args.list.now (verdict_fine c.inspect.ensures c.in_ok-inspect.was) c.if-list-lt-LIST_ROOM.false c.read_formed.ensures
+pub returns-in-Ok : goal.returns-in-Ok
+returns-in-Ok c = good_room c.args.b c.args.text.now c.args.list.now (verdict_fine c.inspect.ensures c.in_ok-inspect.was) c.if-list-lt-LIST_ROOM.false c.read_formed.ensures
+
+pub returns-in-Err : goal.returns-in-Err
+returns-in-Err c = good_room c.args.b c.args.text.now c.args.list.now (verdict_fine c.inspect.ensures c.in_ok-inspect.was) c.if-list-lt-LIST_ROOM.false (formed_wrong (shown c.args.b) c.args.text.now (sym c.check.ensures ∙ c.in-Err.is))
